@@ -14,8 +14,9 @@ use Rattle.algol_meaning.specs.Rest.{Given, valued, passed, refers, names, Hole,
 use Rattle.algol_meaning.specs.Settle.{after_result, right_of, left_of, negated_of, inverted_of, condition_of, named_of, subscripted_of, called_of, valued_of, alone_of, left_alone_of, aimed_of, half_of, half_place_of, sort_at, other_of, actual_of, settle, settle_actuals, answer_put, put_actuals, settle_place, indexed_of, put_place}
 use Rattle.algol_meaning.specs.Asks as asks
 use Rattle.algol_meaning.specs.Asks.{ask_hole, ask_actuals, ask_aim}
+use Rattle.b67_list.proofs.Numbers.{absurd_truth}
 use Rattle.algol_calls.specs.Fits.{IsLink, IsByValue, NextThen, NameLeads, IsCallee, sorts_wanted, AloneFits, ParameterStandsFor, CalledExprFits, ExprsFit, ActualsFit, GivenFits, GivenThen, GivensFit, PassFits, HoleFits, ActualsLeft, CalledPlaceFits, AimFits, LeftFits, AnswerFits}
-use Rattle.algol_calls.proofs.Sorts.{true_false, variable_no_formal, by_name_else, link_true, link_for}
+use Rattle.algol_calls.proofs.Sorts.{variable_no_formal, by_name_else, link_true, link_for}
 
 module _ (sc : Scopes) where
   abbrev pub HalfFits : Half → Type 0
@@ -114,7 +115,7 @@ module _ (sc : Scopes) where
   GoesOn sorts all go_on = (gs : List Given) → Leaves gs sorts all → HalfGivenFits (go_on gs) all
 
   value_fits : (s : Sort) (v : Value) → IsByValue s → GivenFits sc s (valued v)
-  value_fits s v e = (tt, λ f. true_false (sym f ∙ e))
+  value_fits s v e = (tt, λ f. absurd_truth (sym f ∙ e))
 
   valued_fits : (gs : List Given) (x : Half) (sorts all : List Sort) (es : PExprs) (go_on : List Given → HalfGiven) → GivenThen sc (NextThen IsByValue sorts) gs all → HalfFits x →
       ActualsFit sc es sorts → GoesOn sorts all go_on → HalfGivenFits (valued_of gs x sorts es go_on) all

@@ -4,7 +4,7 @@ use Rattle.std.specs.Prelude.{if◌then◌else◌}
 use Rattle.algol_tree.specs.Blocks.{Block}
 use Rattle.algol_calls.specs.Fits.{has_parameter, has_simple}
 
-by_first : (b c : Bool) → b ≡ true → (if b then true else c) ≡ true
+pub by_first : (b c : Bool) → b ≡ true → (if b then true else c) ≡ true
 by_first true c e = refl
 by_first false c e = absurd (let clash : false ≡ true = e in cc)
 

@@ -5,9 +5,6 @@ use Rattle.algol_tree.specs.Sorts.{Sort, is_formal, is_by_name, is_variable}
 use Rattle.algol_meaning.specs.Value.{Cell, simple, event, array, named, reference}
 use Rattle.algol_calls.specs.Fits.{IsLink}
 
-pub true_false : {A : Type 0} → true ≡ false → A
-true_false e = cc
-
 pub variable_no_formal : (s : Sort) → is_variable s ≡ true → is_formal s ≡ false
 variable_no_formal sorts.variable e = refl
 variable_no_formal _ e = cc

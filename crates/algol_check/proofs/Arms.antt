@@ -1,11 +1,10 @@
 -- Walks over statements and declarations, by their shapes.
-use Rattle.std.proofs.Common.{rules, ◌≡◌, ℕ, ◌+◌, ◌<◌, ◌≤◌, List, [], ◌∷◌, ◌++◌, length, drop, get_or, map, Bool, true, false, Option, Some, None, refl, ap, sym, ◌∙◌, subst, drop-cons, suc, zero, arith}
-use Rattle.std.specs.Prelude.{not, ◌==◌, Result, Ok, Err, OnOk, option_copied}
+use Rattle.std.proofs.Common.{rules, ◌≡◌, ℕ, ◌+◌, ◌<◌, ◌≤◌, List, [], ◌∷◌, ◌++◌, length, drop, get_or, map, Bool, true, false, Option, Some, None, refl, ap, sym, ◌∙◌, subst, arith}
+use Rattle.std.specs.Prelude.{not, ◌==◌, option_copied}
 use Rattle.std.specs.Borrow.{Bor}
 use Rattle.std.specs.declared.boxed.Box.{Box}
 use Rattle.std.specs.declared.alloc.Global.{Global}
 use Rattle.algol_tree.specs.declared.tree.Body.{Body}
-use Rattle.algol_tree.specs.declared.tree.Body as bodies
 use Rattle.algol_tree.specs.declared.tree.Call.{Call}
 use Rattle.algol_tree.specs.declared.tree.Decl.{Decl}
 use Rattle.algol_tree.specs.declared.tree.Decl as decls'
@@ -31,11 +30,13 @@ use Rattle.algol_tree.specs.Blocks.{Begin, of_statement, of_procedure, Block}
 use Rattle.algol_tree.specs.Surroundings.{Surroundings, body_of}
 use Rattle.algol_tree.specs.Sites.{has_decls, sites_in_pairs}
 use Rattle.algol_tree.specs.Accepted.{noted_all}
+use Rattle.algol_tree.proofs.Images.{assign_is, block_is, body_is, call_of_is, decl_of_events, decl_of_files, decl_of_labels, decl_of_tasks, empty_is, event_is, for_is, forward_is, go_to_is, if_else_is, label_is, procedure_is, process_is, simple_is, stmt_of_if_then, stmt_of_thru, stmt_of_until, stmt_of_while, write_is}
 use Rattle.algol_frames.specs.declared.scopes.Scopes.{Scopes}
 use Rattle.algol_told.specs.Telling.{TellsAll}
 use Rattle.algol_sites.specs.declared.place.Place.{Place}
 use Rattle.algol_sites.specs.Headings.{forward_site, missing, referring}
 use Rattle.algol_sites.specs.Noting.{noted_along, noted_at}
+use Rattle.b67_list.proofs.Lists.{drop_past, drop_read}
 use Rattle.algol_check.specs.declared.checker.Checker.{Checker}
 use Rattle.algol_check.specs.Walking.{IsCounted, IsTyped, WalksBody, WalksGuarded, WalksStmt, WalksStmts}
 use Rattle.algol_check.specs.Announced.{bodies_for, body_at, body_for}
@@ -46,61 +47,12 @@ use Rattle.algol_check.proofs.Stated.{block_walks, case_walks, empty_walks, for_
 
 -- ---- what holds where nothing fails
 
-pub on_ok : {A E : Type 0} (r : Result A E) {P Q : Type 0} → (P → Q) → OnOk r P → OnOk r Q
-on_ok (Ok x) f h = f h
-on_ok (Err e) f h = tt
-
-pub on_both : {A E : Type 0} (r : Result A E) {P Q R : Type 0} → (P → Q → R) → OnOk r P → OnOk r Q → OnOk r R
-on_both (Ok x) f h k = f h k
-on_both (Err e) f h k = tt
-
 -- ---- the plain trees
-
-empty_is : stmt shapes.Empty ≡ tree.empty
-empty_is = search (rules, stmts'.the_lemmas)
-
-label_is : (n : Named) (s : Box Stmt Global) → stmt (shapes.Label n s) ≡ tree.label n (stmt s.value)
-label_is n s = search (rules, stmts'.the_lemmas)
-
-block_is : (b : Body) → stmt (shapes.Block b) ≡ tree.block (body b)
-block_is b = search (rules, stmts'.the_lemmas)
-
-if_then_is : (e : Expr) (x : Box Stmt Global) → stmt (shapes.If e x None) ≡ tree.if_then (expr e) (stmt x.value)
-if_then_is e x = search (rules, stmts'.the_lemmas)
-
-if_else_is : (e : Expr) (x y : Box Stmt Global) → stmt (shapes.If e x (Some y)) ≡ tree.if_else (expr e) (stmt x.value) (stmt y.value)
-if_else_is e x y = search (rules, stmts'.the_lemmas)
-
-while_is : (e : Expr) (x : Box Stmt Global) → stmt (shapes.While e x) ≡ tree.while (expr e) (stmt x.value)
-while_is e x = search (rules, stmts'.the_lemmas)
-
-until_is : (x : Box Stmt Global) (e : Expr) → stmt (shapes.Until x e) ≡ tree.until (stmt x.value) (expr e)
-until_is x e = search (rules, stmts'.the_lemmas)
-
-for_is : (v : Named) (a s l : Expr) (x : Box Stmt Global) → stmt (shapes.For v a s l x) ≡ tree.for v (expr a) (expr s) (expr l) (stmt x.value)
-for_is v a s l x = search (rules, stmts'.the_lemmas)
-
-thru_is : (e : Expr) (x : Box Stmt Global) → stmt (shapes.Thru e x) ≡ tree.thru (expr e) (stmt x.value)
-thru_is e x = search (rules, stmts'.the_lemmas)
 
 case_is : (e : Expr) (ss : List Stmt) → stmt (shapes.Case e ss) ≡ tree.case (expr e) (stmts ss)
 case_is e ss = search (rules, stmts'.the_lemmas)
 
-pub body_is : (b : Body) → body b ≡ tree.body b.spot (decls b.decls) (stmts b.stmts)
-body_is b = search (rules, bodies.the_lemmas)
-
 -- ---- lists
-
-split : {A : Type 0} (xs : List A) (i : ℕ) (x : A) → i < length xs → x ≡ get_or xs i x → drop i xs ≡ x ∷ drop (i + 1) xs
-split xs i x h e =
-    let next : suc i ≡ i + 1 = omega arith in
-    drop-cons xs i x h ∙ ap (λ y. y ∷ drop (suc i) xs) (sym e) ∙ ap (λ n. x ∷ drop n xs) next
-
-dropped : {A : Type 0} (xs : List A) (i : ℕ) → length xs ≤ i → drop i xs ≡ []
-dropped [] zero h = refl
-dropped [] (suc i) h = refl
-dropped (x ∷ xs) zero h = absurd (omega arith)
-dropped (x ∷ xs) (suc i) h = dropped xs i (omega arith)
 
 -- a body has declarations where its list is not empty
 pub listed_as : (ds : List Decl) (n : ℕ) → n ≡ length ds → not (n == 0) ≡ has_decls (decls ds)
@@ -109,47 +61,8 @@ listed_as (d ∷ ds) n e = ap (λ (k : ℕ). not (k == 0)) e ∙ (let h : (lengt
 
 -- ---- the plain trees of declarations and of statements without statements in them
 
-simple_is : (kind : Kind) (ns : List Named) → decl (declared.Simple kind ns) ≡ tree.simple kind ns
-simple_is kind ns = search (rules, decls'.the_lemmas)
-
-files_is : (ns : List Named) → decl (declared.Files ns) ≡ tree.files ns
-files_is ns = search (rules, decls'.the_lemmas)
-
-events_is : (ns : List Named) → decl (declared.Events ns) ≡ tree.events ns
-events_is ns = search (rules, decls'.the_lemmas)
-
-tasks_is : (ns : List Named) → decl (declared.Tasks ns) ≡ tree.tasks ns
-tasks_is ns = search (rules, decls'.the_lemmas)
-
-labels_is : (ns : List Named) → decl (declared.Labels ns) ≡ tree.labels ns
-labels_is ns = search (rules, decls'.the_lemmas)
-
 arrays_is : (kind : Kind) (ns : List Named) (ps : List Pair) → decl (declared.Arrays kind ns ps) ≡ tree.arrays kind ns (pairs ps)
 arrays_is kind ns ps = search (rules, decls'.the_lemmas)
-
-forward_is : (h : Heading) → decl (declared.Forward h) ≡ tree.forward h
-forward_is h = search (rules, decls'.the_lemmas)
-
-procedure_is : (h : Heading) (s : Box Stmt Global) → decl (declared.Procedure h s) ≡ tree.procedure h (stmt s.value)
-procedure_is h s = search (rules, decls'.the_lemmas)
-
-assign_is : (v : Variable) (e : Expr) → stmt (shapes.Assign v e) ≡ tree.assign (variable v) (expr e)
-assign_is v e = search (rules, stmts'.the_lemmas)
-
-call_is : (k : Call) → stmt (shapes.Call k) ≡ tree.call_of (call k)
-call_is k = search (rules, stmts'.the_lemmas)
-
-go_to_is : (n : Named) → stmt (shapes.GoTo n) ≡ tree.go_to n
-go_to_is n = search (rules, stmts'.the_lemmas)
-
-process_is : (k : Call) (task : Option Named) → stmt (shapes.Process k task) ≡ tree.process (call k) task
-process_is k task = search (rules, stmts'.the_lemmas)
-
-event_is : (act : EventAct) (e : EventName) → stmt (shapes.Event act e) ≡ tree.event act e
-event_is act e = search (rules, stmts'.the_lemmas)
-
-write_is : (n : Named) (spot : Spot) (ps : List PhraseText) (es : List Expr) → stmt (shapes.Write n spot ps es) ≡ tree.write n spot ps (exprs es)
-write_is n spot ps es = search (rules, stmts'.the_lemmas)
 
 pub announced_here : (ds es : List Decl) (i : ℕ) (d : Decl) (body' : Option (Bor Heading)) (slice items : List (Option (Bor Heading))) → i < length ds → d ≡ get_or ds i d →
     option_copied body' ≡ body_at (map option_copied slice) i → slice ≡ items → map option_copied items ≡ bodies_for (decls es) → es ≡ ds →
@@ -201,7 +114,7 @@ module _ (scopes : Scopes) where
   pub if_then_arm : (s : Stmt) (e : Expr) (x : Box Stmt Global) (o : Option (Box Stmt Global)) (y : Stmt) (c d : Checker) (begin : Begin) (listed : Bool) →
       s ≡ shapes.If e x o → o ≡ None → y ≡ x.value → WalksGuarded scopes c d kinds.Truth (expr e) (stmt y) → WalksStmt scopes c d (stmt s) begin listed
   if_then_arm s e x o y c d begin listed is none inner g =
-      stmt_as c d s (tree.if_then (expr e) (stmt x.value)) begin listed (ap stmt (is ∙ ap (shapes.If e x) none) ∙ if_then_is e x)
+      stmt_as c d s (tree.if_then (expr e) (stmt x.value)) begin listed (ap stmt (is ∙ ap (shapes.If e x) none) ∙ stmt_of_if_then e x)
       (if_then_walks scopes c d g.faults (expr e) (stmt x.value) begin listed g.typed (inner_as (record c { faults = g.faults }) d y x of_statement false inner g.walks))
 
   pub if_else_arm : (s : Stmt) (e : Expr) (x : Box Stmt Global) (o : Option (Box Stmt Global)) (y : Box Stmt Global) (v w : Stmt) (c d f : Checker)
@@ -215,13 +128,13 @@ module _ (scopes : Scopes) where
   pub while_arm : (s : Stmt) (e : Expr) (x : Box Stmt Global) (y : Stmt) (c d : Checker) (begin : Begin) (listed : Bool) →
       s ≡ shapes.While e x → y ≡ x.value → WalksGuarded scopes c d kinds.Truth (expr e) (stmt y) → WalksStmt scopes c d (stmt s) begin listed
   while_arm s e x y c d begin listed is inner g =
-      stmt_as c d s (tree.while (expr e) (stmt x.value)) begin listed (ap stmt is ∙ while_is e x)
+      stmt_as c d s (tree.while (expr e) (stmt x.value)) begin listed (ap stmt is ∙ stmt_of_while e x)
       (while_walks scopes c d g.faults (expr e) (stmt x.value) begin listed g.typed (inner_as (record c { faults = g.faults }) d y x of_statement false inner g.walks))
 
   pub thru_arm : (s : Stmt) (e : Expr) (x : Box Stmt Global) (y : Stmt) (c d : Checker) (begin : Begin) (listed : Bool) →
       s ≡ shapes.Thru e x → y ≡ x.value → WalksGuarded scopes c d kinds.Number (expr e) (stmt y) → WalksStmt scopes c d (stmt s) begin listed
   thru_arm s e x y c d begin listed is inner g =
-      stmt_as c d s (tree.thru (expr e) (stmt x.value)) begin listed (ap stmt is ∙ thru_is e x)
+      stmt_as c d s (tree.thru (expr e) (stmt x.value)) begin listed (ap stmt is ∙ stmt_of_thru e x)
       (thru_walks scopes c d g.faults (expr e) (stmt x.value) begin listed g.typed (inner_as (record c { faults = g.faults }) d y x of_statement false inner g.walks))
 
   pub until_ends : (s : PStmt) (e : PExpr) (c d f : Checker) (begin : Begin) (listed : Bool) → WalksStmt scopes c d s of_statement false → f ≡ record d { faults = f.faults } →
@@ -233,7 +146,7 @@ module _ (scopes : Scopes) where
       s ≡ shapes.Until x e → y ≡ x.value → WalksStmt scopes c d (tree.until (stmt y) (expr e)) begin listed → WalksStmt scopes c d (stmt s) begin listed
   until_arm s x e y c d begin listed is inner w =
       stmt_as c d s (tree.until (stmt y) (expr e)) begin listed
-      (ap stmt is ∙ until_is x e ∙ ap (λ (z : Stmt). tree.until (stmt z) (expr e)) (sym inner)) w
+      (ap stmt is ∙ stmt_of_until x e ∙ ap (λ (z : Stmt). tree.until (stmt z) (expr e)) (sym inner)) w
 
   pub for_ends : (v : Named) (x s l : PExpr) (b : PStmt) (c d e : Checker) (begin : Begin) (listed : Bool) → d ≡ record c { faults = d.faults } →
       IsCounted scopes c d.faults v x s l → WalksStmt scopes d e b of_statement false → WalksStmt scopes c e (tree.for v x s l b) begin listed
@@ -269,11 +182,11 @@ module _ (scopes : Scopes) where
       Remains start now all (drop i ss) listed → Remains start next all (drop (i + 1) ss) listed
   remains_less start now next all ss i s listed h e w r = λ end v.
       let P : List Stmt → Type 0 = λ xs. WalksStmts scopes now end (stmts xs) listed in
-      r end (subst P (sym (split ss i s h e)) (stmts_more scopes now next end (stmt s) (stmts (drop (i + 1) ss)) listed w v))
+      r end (subst P (sym (drop_read ss i s h e)) (stmts_more scopes now next end (stmt s) (stmts (drop (i + 1) ss)) listed w v))
 
   pub remains_none : (start now : Checker) (all ss : List Stmt) (i : ℕ) (listed : Bool) → length ss ≤ i → Remains start now all (drop i ss) listed → WalksStmts scopes start now (stmts all) listed
   remains_none start now all ss i listed h r =
-      let P : List Stmt → Type 0 = λ xs. WalksStmts scopes now now (stmts xs) listed in r now (subst P (sym (dropped ss i h)) (stmts_end scopes now listed))
+      let P : List Stmt → Type 0 = λ xs. WalksStmts scopes now now (stmts xs) listed in r now (subst P (sym (drop_past ss i h)) (stmts_end scopes now listed))
 
   pub stmts_as : (c d : Checker) (us ss : List Stmt) (x y : Bool) → us ≡ ss → x ≡ y → WalksStmts scopes c d (stmts us) x → WalksStmts scopes c d (stmts ss) y
   stmts_as c d us ss x y e k w =
@@ -292,7 +205,7 @@ module _ (scopes : Scopes) where
 
   pub call_arm : (s : Stmt) (k : Call) (c d : Checker) (begin : Begin) (listed : Bool) → s ≡ shapes.Call k →
       WalksStmt scopes c d (tree.call_of (call k)) begin listed → WalksStmt scopes c d (stmt s) begin listed
-  call_arm s k c d begin listed is w = stmt_as c d s (tree.call_of (call k)) begin listed (ap stmt is ∙ call_is k) w
+  call_arm s k c d begin listed is w = stmt_as c d s (tree.call_of (call k)) begin listed (ap stmt is ∙ call_of_is k) w
 
   pub go_to_arm : (s : Stmt) (n : Named) (c d : Checker) (begin : Begin) (listed : Bool) → s ≡ shapes.GoTo n →
       WalksStmt scopes c d (tree.go_to n) begin listed → WalksStmt scopes c d (stmt s) begin listed
@@ -324,11 +237,11 @@ module _ (scopes : Scopes) where
       WalksDecl scopes now next (decl d) (decls (drop (i + 1) ds)) → RemainsDecls start now all (drop i ds) → RemainsDecls start next all (drop (i + 1) ds)
   decls_less start now next all ds i d h e w r = λ end v.
       let P : List Decl → Type 0 = λ xs. WalksDecls scopes now end (decls xs) in
-      r end (subst P (sym (split ds i d h e)) (decls_more scopes now next end (decl d) (decls (drop (i + 1) ds)) w v))
+      r end (subst P (sym (drop_read ds i d h e)) (decls_more scopes now next end (decl d) (decls (drop (i + 1) ds)) w v))
 
   decls_none : (start now : Checker) (all ds : List Decl) (i : ℕ) → length ds ≤ i → RemainsDecls start now all (drop i ds) → WalksDecls scopes start now (decls all)
   decls_none start now all ds i h r =
-      let P : List Decl → Type 0 = λ xs. WalksDecls scopes now now (decls xs) in r now (subst P (sym (dropped ds i h)) (decls_end scopes now))
+      let P : List Decl → Type 0 = λ xs. WalksDecls scopes now now (decls xs) in r now (subst P (sym (drop_past ds i h)) (decls_end scopes now))
 
   -- ---- declarations
 
@@ -341,20 +254,20 @@ module _ (scopes : Scopes) where
 
   pub files_arm : (x : Decl) (ns : List Named) (c : Checker) (later : PDecls) → x ≡ declared.Files ns → WalksDecl scopes c c (decl x) later
   files_arm x ns c later is =
-      decl_as c c x (tree.files ns) later (ap decl is ∙ files_is ns) (quiet_walks scopes c (tree.files ns) later (λ blocks a first. (refl, (refl, refl))))
+      decl_as c c x (tree.files ns) later (ap decl is ∙ decl_of_files ns) (quiet_walks scopes c (tree.files ns) later (λ blocks a first. (refl, (refl, refl))))
 
   pub events_arm : (x : Decl) (ns : List Named) (c : Checker) (later : PDecls) → x ≡ declared.Events ns → WalksDecl scopes c c (decl x) later
   events_arm x ns c later is =
-      decl_as c c x (tree.events ns) later (ap decl is ∙ events_is ns) (quiet_walks scopes c (tree.events ns) later (λ blocks a first. (refl, (refl, refl))))
+      decl_as c c x (tree.events ns) later (ap decl is ∙ decl_of_events ns) (quiet_walks scopes c (tree.events ns) later (λ blocks a first. (refl, (refl, refl))))
 
   pub tasks_arm : (x : Decl) (ns : List Named) (c : Checker) (later : PDecls) → x ≡ declared.Tasks ns → WalksDecl scopes c c (decl x) later
   tasks_arm x ns c later is =
-      decl_as c c x (tree.tasks ns) later (ap decl is ∙ tasks_is ns) (quiet_walks scopes c (tree.tasks ns) later (λ blocks a first. (refl, (refl, refl))))
+      decl_as c c x (tree.tasks ns) later (ap decl is ∙ decl_of_tasks ns) (quiet_walks scopes c (tree.tasks ns) later (λ blocks a first. (refl, (refl, refl))))
 
   pub labels_arm : (x : Decl) (ns ms : List Named) (c d : Checker) (later : PDecls) → x ≡ declared.Labels ns → ms ≡ ns → d ≡ record c { labels = d.labels } →
       d.labels.items ≡ c.labels.items ++ map (λ (n : Named). n.spot) ms → WalksDecl scopes c d (decl x) later
   labels_arm x ns ms c d later is e r l =
-      decl_as c d x (tree.labels ms) later (ap decl is ∙ labels_is ns ∙ ap (λ (xs : List Named). tree.labels xs) (sym e)) (labels_walk scopes c d ms later r l)
+      decl_as c d x (tree.labels ms) later (ap decl is ∙ decl_of_labels ns ∙ ap (λ (xs : List Named). tree.labels xs) (sym e)) (labels_walk scopes c d ms later r l)
 
   pub arrays_arm : (x : Decl) (kind : Kind) (ns : List Named) (ps qs : List Pair) (c d : Checker) (later : PDecls) → x ≡ declared.Arrays kind ns ps → qs ≡ ps →
       d ≡ record c { faults = d.faults } →

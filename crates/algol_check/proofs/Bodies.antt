@@ -1,31 +1,23 @@
 -- Tables of bodies, and what declarations announce.
-use Rattle.std.proofs.Common.{rules, ◌≡◌, ℕ, ◌+◌, ◌-◌, ◌<◌, ◌≤◌, Bool, true, false, List, [], ◌∷◌, ◌++◌, map, length, drop, get_or, reverse, Option, Some, refl, ap, sym, ◌∙◌, subst, arith, drop-cons, suc, zero}
+use Rattle.std.proofs.Common.{◌≡◌, ℕ, ◌+◌, ◌-◌, ◌<◌, ◌≤◌, Bool, true, false, List, [], ◌∷◌, ◌++◌, map, length, drop, get_or, reverse, Option, Some, refl, ap, sym, ◌∙◌, subst, arith, suc, zero}
 use Rattle.std.proofs.lemmas.List.{reverse-append}
-use Rattle.std.specs.Prelude.{◌==◌, ◌&&◌, if◌then◌else◌, cond, option_copied}
+use Rattle.std.specs.Prelude.{if◌then◌else◌, cond, option_copied}
 use Rattle.std.specs.Borrow.{Bor}
 use Rattle.std.specs.Ordering.{nat_cmp}
 use Rattle.std.specs.Cmp.Lexicographic.{slice_cmp}
 use Rattle.std.specs.Str.{bytes_eq}
 use Rattle.std.specs.BTreeMap as maps
 use Rattle.std.specs.BTreeMap.{BTreeMap}
-use Rattle.std.specs.declared.boxed.Box.{Box}
-use Rattle.std.specs.declared.alloc.Global.{Global}
 use Rattle.std.proofs.lemmas.Map.Text.{btree_map_updates_str}
 use Rattle.algol_tree.specs.declared.tree.Heading.{Heading}
-use Rattle.algol_tree.specs.declared.tree.Decl.{Decl, the_lemmas}
-use Rattle.algol_tree.specs.declared.tree.Decl.TheVariants as shapes
-use Rattle.algol_tree.specs.declared.tree.Stmt.{Stmt}
-use Rattle.algol_tree.specs.Image.{decl, decls, stmt}
+use Rattle.algol_tree.specs.declared.tree.Decl.{Decl}
+use Rattle.algol_tree.specs.Image.{decl, decls}
 use Rattle.algol_tree.specs.Plain as tree
 use Rattle.algol_tree.specs.Plain.{PDecl, PDecls}
 use Rattle.algol_tree.specs.Sorts.{same_name}
+use Rattle.algol_tree.proofs.Names.{bytes_same_name}
+use Rattle.b67_list.proofs.Lists.{drop_read_or}
 use Rattle.algol_check.specs.Announced.{HasBodies, bodies_for, body_at, body_for, heading_in}
-
-straight : (xs ys : List ℕ) → bytes_eq xs ys ≡ same_name xs ys
-straight [] [] = refl
-straight [] (y ∷ ys) = refl
-straight (x ∷ xs) [] = refl
-straight (x ∷ xs) (y ∷ ys) = ap (λ b. (x == y) && b) (straight xs ys)
 
 -- a table after one more heading
 pub put_heading : (name : Bor (List ℕ)) (old new : BTreeMap (Bor (List ℕ)) (Bor Heading)) (h : Bor Heading) →
@@ -34,7 +26,7 @@ pub put_heading : (name : Bor (List ℕ)) (old new : BTreeMap (Bor (List ℕ)) (
 put_heading name old new h u q =
     ap option_copied (btree_map_updates_str name.now old new (Some h) u q)
     ∙ chosen (bytes_eq name.now q) h (maps.get_by (λ k. slice_cmp nat_cmp q k.now) old)
-    ∙ ap (λ b. if b then Some h.now else heading_in old q) (straight name.now q)
+    ∙ ap (λ b. if b then Some h.now else heading_in old q) (bytes_same_name name.now q)
   where
     chosen : (b : Bool) (f : Bor Heading) (o : Option (Bor Heading)) → option_copied (cond b (Some f) o) ≡ (if b then Some f.now else option_copied o)
     chosen true f o = refl
@@ -44,22 +36,13 @@ pub ruleset putting = put_heading
 
 -- ---- one declaration
 
-procedure_is : (h : Heading) (s : Box Stmt Global) → decl (shapes.Procedure h s) ≡ tree.procedure h (stmt s.value)
-procedure_is h s = search (rules, the_lemmas)
-
-forward_is : (h : Heading) → decl (shapes.Forward h) ≡ tree.forward h
-forward_is h = search (rules, the_lemmas)
-
 -- ---- all declarations, the last first
-
-split : {A : Type 0} (xs : List A) (i : ℕ) (x : A) → i < length xs → drop i xs ≡ get_or xs i x ∷ drop (i + 1) xs
-split xs i x h = let next : suc i ≡ i + 1 = omega arith in drop-cons xs i x h ∙ ap (λ n. get_or xs i x ∷ drop n xs) next
 
 back : (ds : List Decl) (at : ℕ) (d : Decl) → 0 < at → at ≤ length ds → d ≡ get_or ds (at - 1) d → drop (at - 1) ds ≡ d ∷ drop at ds
 back ds at d low high e =
     let next : (at - 1) + 1 ≡ at = omega (arith, low) in
     let h : at - 1 < length ds = omega (arith, low, high) in
-    split ds (at - 1) d h ∙ ap (λ x. x ∷ drop ((at - 1) + 1) ds) (sym e) ∙ ap (λ (n : ℕ). d ∷ drop n ds) next
+    drop_read_or ds (at - 1) d h ∙ ap (λ x. x ∷ drop ((at - 1) + 1) ds) (sym e) ∙ ap (λ (n : ℕ). d ∷ drop n ds) next
 
 pub bodies_back : (ds : List Decl) (at : ℕ) (d : Decl) (old new : BTreeMap (Bor (List ℕ)) (Bor Heading)) → 0 < at → at ≤ length ds → d ≡ get_or ds (at - 1) d →
     ((later : PDecls) → HasBodies old later → HasBodies new (tree.decls (decl d) later)) → HasBodies old (decls (drop at ds)) → HasBodies new (decls (drop (at - 1) ds))
@@ -73,16 +56,6 @@ found_back ds at d body old new low high e b n h =
     ap (λ (xs : List (Option (Bor Heading))). map option_copied xs) (ap reverse n ∙ reverse-append old (body ∷ []))
     ∙ ap (λ os. option_copied body ∷ os) h ∙ ap (λ o. o ∷ bodies_for (decls (drop at ds))) b
     ∙ sym (ap (λ (xs : List Decl). bodies_for (decls xs)) (back ds at d low high e))
-
-dropped : {A : Type 0} (xs : List A) (i : ℕ) → length xs ≤ i → drop i xs ≡ []
-dropped [] zero h = refl
-dropped [] (suc i) h = refl
-dropped (x ∷ xs) zero h = absurd (omega arith)
-dropped (x ∷ xs) (suc i) h = dropped xs i (omega arith)
-
-pub found_none : (ds : List Decl) (i : ℕ) (found : List (Option (Bor Heading))) → length ds ≤ i → found ≡ [] → map option_copied (reverse found) ≡ bodies_for (decls (drop i ds))
-found_none ds i found h e =
-    ap (λ (xs : List (Option (Bor Heading))). map option_copied (reverse xs)) e ∙ sym (ap (λ (xs : List Decl). bodies_for (decls xs)) (dropped ds i h))
 
 -- ---- the body of one of them
 

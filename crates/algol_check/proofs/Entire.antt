@@ -16,11 +16,13 @@ use Rattle.algol_tree.specs.Surroundings.{Surroundings, outermost}
 use Rattle.algol_tree.specs.Sites.{sites_in_body}
 use Rattle.algol_tree.specs.Ascending.{IsInOrder}
 use Rattle.algol_tree.specs.Accepted.{check_faults, first_fault, noted_all}
+use Rattle.algol_tree.proofs.Images.{body_is}
+use Rattle.algol_tree.proofs.Spots.{same_spot_itself}
 use Rattle.algol_rules.specs.Refusing.{refusing}
-use Rattle.algol_rules.proofs.Order.{first-none}
+use Rattle.algol_rules.proofs.Order.{first_none}
 use Rattle.algol_frames.specs.declared.scopes.Scopes.{Scopes}
 use Rattle.algol_scope.specs.Resolved.{AreOf, number_of_block}
-use Rattle.algol_told.proofs.Told.{each-part-is-told}
+use Rattle.algol_told.proofs.Told.{each_part_is_told}
 use Rattle.algol_sites.specs.declared.label.Standing.{Standing}
 use Rattle.algol_sites.specs.Labelling.{bad_in, labels_at, standing_as, standings_at}
 use Rattle.algol_sites.specs.Noting.{noted_along}
@@ -28,8 +30,7 @@ use Rattle.algol_sites.specs.Placing.{AreFound, BlockIsFound, SiteIsPlaced, Bloc
 use Rattle.algol_sites.proofs.Checked.{checked}
 use Rattle.algol_check.specs.declared.checker.Checker.{Checker}
 use Rattle.algol_check.specs.Walking.{PlaceIsAt, WalksBody}
-use Rattle.algol_check.proofs.Arms.{body_is}
-use Rattle.algol_check.proofs.Ordered.{itself, stand_apart}
+use Rattle.algol_check.proofs.Ordered.{stand_apart}
 use Rattle.algol_check.proofs.Walked.{found_alike}
 
 -- nothing was noted
@@ -58,10 +59,10 @@ plain_first scopes spot ds ss c d g order are fresh w q =
     let p = tree.program b in
     let blocks = outer_block b ∷ blocks_in_body b (spot ∷ []) in
     let found : AreFound blocks blocks = stand_apart p order in
-    let number : 0 ≡ number_at blocks spot = sym (ap (λ same. if same then 0 else number_at (blocks_in_body b (spot ∷ [])) spot + 1) (itself spot)) in
+    let number : 0 ≡ number_at blocks spot = sym (ap (λ same. if same then 0 else number_at (blocks_in_body b (spot ∷ [])) spot + 1) (same_spot_itself spot)) in
     let at : PlaceIsAt scopes blocks c.place outermost =
     record { placed = fresh.placed blocks (outer_block b) outermost found.0 refl refl number; numbers = numbers p scopes are } in
-    let n = w.notes blocks outermost at (each-part-is-told p scopes order are)
+    let n = w.notes blocks outermost at (each_part_is_told p scopes order are)
     (found_alike blocks (blocks_in_body b (spot ∷ [])) (blocks_in_body b (outer_of c.place)) (ap (blocks_in_body b) (sym (fresh_outer c spot fresh))) found.1) in
     let parts = sites_in_body blocks b outermost in
     checked p d.faults.first g d.standings.items d.labels.items (n.faults ∙ ap (λ f. noted_along blocks f parts) fresh.faults)
@@ -98,7 +99,7 @@ pub refused_first : (p : PProgram) (o : Option Fault) (r : Result (Unit {0}) Ref
 refused_first p o r spot code e q h = sym e ∙ refused_by o spot code (sym q ∙ h)
 
 passed_by : (fs : List Fault) (o : Option Fault) → o ≡ first_fault fs → IfOk (refusing o) (λ x. fs ≡ [])
-passed_by fs None e = first-none fs (sym e)
+passed_by fs None e = first_none fs (sym e)
 passed_by fs (Some f) e = tt
 
 pub passed_none : (p : PProgram) (o : Option Fault) (r : Result (Unit {0}) Refusal) → o ≡ first_fault (check_faults p) → r ≡ refusing o → IfOk r (λ x. check_faults p ≡ [])

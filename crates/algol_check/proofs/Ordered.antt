@@ -9,6 +9,7 @@ use Rattle.algol_tree.specs.Blocks.{Begin, of_statement, of_procedure, Block, be
 use Rattle.algol_tree.specs.Accepted.{is_before}
 use Rattle.algol_tree.specs.Ascending.{Ascends, IsInOrder, spots_of_body, spots_of_decl, spots_of_decls, spots_of_stmt, spots_of_stmts, spots_of_names, spots_of_expr}
 use Rattle.algol_tree.specs.Names.{specified}
+use Rattle.algol_tree.proofs.Spots.{before_apart, before_on, same_spot_itself}
 use Rattle.algol_sites.specs.Placing.{AreFound, BlockIsFound, StandApart}
 
 -- ---- some of the places of a list, in their order
@@ -48,12 +49,9 @@ abbrev AreOrdered : List Spot → Type 0
 AreOrdered [] = Unit {0}
 AreOrdered (s ∷ ss) = IsBeforeAll s ss × AreOrdered ss
 
-through : (a b c : Spot) → is_before a b ≡ true → is_before b c ≡ true → is_before a c ≡ true
-through a b c h k = grind arith
-
 all_through : (s t : Spot) (ts : List Spot) → is_before s t ≡ true → IsBeforeAll t ts → IsBeforeAll s ts
 all_through s t [] h k = tt
-all_through s t (x ∷ ts) h k = (through s t x h k.0, all_through s t ts h k.1)
+all_through s t (x ∷ ts) h k = (before_on s t x h k.0, all_through s t ts h k.1)
 
 ordered : (ss : List Spot) → Ascends ss → AreOrdered ss
 ordered [] h = tt
@@ -79,12 +77,6 @@ ordered_among (x ∷ xs) (y ∷ ys) h (inr k) = ordered_among (x ∷ xs) ys h.1 
 abbrev spots_at : List Block → List Spot
 spots_at bs = map (λ (b : Block). b.spot) bs
 
-apart : (a b : Spot) → is_before a b ≡ true → same_spot a b ≡ false
-apart a b h = grind arith
-
-pub itself : (a : Spot) → same_spot a a ≡ true
-itself a = grind arith
-
 found_first : (b : Block) (bs : List Block) (same : Bool) → same ≡ true → slice_get (b ∷ bs) (if same then 0 else number_at bs b.spot + 1) ≡ Some b
 found_first b bs true e = refl
 found_first b bs false e = absurd (let clash : false ≡ true = e in cc)
@@ -95,11 +87,11 @@ found_later b x bs false e h = let next : number_at bs x.spot + 1 ≡ suc (numbe
 
 more_found : (b : Block) (bs xs : List Block) → IsBeforeAll b.spot (spots_at xs) → AreFound bs xs → AreFound (b ∷ bs) xs
 more_found b bs [] h f = tt
-more_found b bs (x ∷ xs) h f = (found_later b x bs (same_spot b.spot x.spot) (apart b.spot x.spot h.0) f.0, more_found b bs xs h.1 f.1)
+more_found b bs (x ∷ xs) h f = (found_later b x bs (same_spot b.spot x.spot) (before_apart b.spot x.spot h.0) f.0, more_found b bs xs h.1 f.1)
 
 all_found : (bs : List Block) → AreOrdered (spots_at bs) → AreFound bs bs
 all_found [] h = tt
-all_found (b ∷ bs) h = (found_first b bs (same_spot b.spot b.spot) (itself b.spot), more_found b bs bs h.0 (all_found bs h.1))
+all_found (b ∷ bs) h = (found_first b bs (same_spot b.spot b.spot) (same_spot_itself b.spot), more_found b bs bs h.0 (all_found bs h.1))
 
 -- ---- the places of blocks are among those of the tree
 

@@ -32,7 +32,7 @@ use Rattle.algol_sites.specs.Noting.{differs, mistyped, noted_along, noted_at}
 use Rattle.algol_sites.specs.Placing.{SiteIsPlaced, BlockNumbers, outer_of}
 use Rattle.algol_sites.specs.Seeing.{Notes, NotesAt, stmt_parts, for_site}
 use Rattle.algol_sites.specs.Wanting.{unfit}
-use Rattle.algol_sites.proofs.Notes.{noted_along-append}
+use Rattle.algol_sites.proofs.Notes.{noted_along_append}
 use Rattle.algol_sites.proofs.Telling.{first_told, last_told}
 use Rattle.algol_sites.proofs.Whole.{noted_later}
 use Rattle.algol_check.specs.declared.checker.Checker.{Checker}
@@ -206,7 +206,7 @@ module _ (scopes : Scopes) where
                   h blocks a (last_told scopes xs (sites t a) told.1)
                   ∙ ap (λ o. noted_along blocks (noted_all o (mistyped kinds.Truth t a)) (sites t a)) here.faults
                   ∙ ap (λ o. noted_along blocks o (sites t a)) (sym (noted_later blocks c.faults.first wrong xs))
-                  ∙ sym (noted_along-append blocks (noted_all c.faults.first (mistyped kinds.Truth t a)) xs (sites t a));
+                  ∙ sym (noted_along_append blocks (noted_all c.faults.first (mistyped kinds.Truth t a)) xs (sites t a));
               labels = here.labels ∙ ap (λ ls. c.labels.items ++ ls) (sym (unheard labels_at xs (sites t a) quiet.labels));
               standings = here.standings ∙ ap (λ ss. map standing_as c.standings.items ++ ss) (sym (unheard standings_at xs (sites t a) quiet.standings));
             };

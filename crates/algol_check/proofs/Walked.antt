@@ -14,7 +14,7 @@ use Rattle.algol_sites.specs.Labelling.{standing_as, standings_at, labels_at}
 use Rattle.algol_sites.specs.Noting.{noted_along}
 use Rattle.algol_sites.specs.Placing.{AreBlocks, AreFound, SiteIsPlaced, outer_of}
 use Rattle.algol_sites.proofs.Telling.{first_told, last_told}
-use Rattle.algol_sites.proofs.Notes.{noted_along-append}
+use Rattle.algol_sites.proofs.Notes.{noted_along_append}
 use Rattle.algol_check.specs.declared.checker.Checker.{Checker}
 use Rattle.algol_check.specs.Walking.{PlaceIsAt, PartsNoted, Stays, CheckWalks, no_blocks}
 use Rattle.algol_check.proofs.Silent.{IsSilent}
@@ -52,7 +52,7 @@ noted_none blocks c =
 pub noted_both : (blocks : List Block) (c d e : Checker) (xs ys : List Site) → PartsNoted blocks c d xs → PartsNoted blocks d e ys → PartsNoted blocks c e (xs ++ ys)
 noted_both blocks c d e xs ys h k =
     record {
-      faults = k.faults ∙ ap (λ f. noted_along blocks f ys) h.faults ∙ sym (noted_along-append blocks c.faults.first xs ys);
+      faults = k.faults ∙ ap (λ f. noted_along blocks f ys) h.faults ∙ sym (noted_along_append blocks c.faults.first xs ys);
       labels =
           k.labels ∙ ap (λ ls. ls ++ flat_map labels_at ys) h.labels ∙ append_assoc c.labels.items (flat_map labels_at xs) (flat_map labels_at ys)
           ∙ ap (λ ls. c.labels.items ++ ls) (sym (flat_map-append labels_at xs ys));

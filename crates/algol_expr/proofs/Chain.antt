@@ -15,6 +15,7 @@ use Rattle.algol_tree.specs.DueExpr.{list_in}
 use Rattle.algol_tree.specs.Due.{Value, many, Make, Due, make, plain, nests, takes, makes, skips}
 use Rattle.algol_tree.specs.Reading.{reading_turn, read}
 use Rattle.algol_tree.specs.Found.{IsRest, TokenPasses, ReaderFinds, Completes, Extends, Lists, Fails}
+use Rattle.b67_list.proofs.Answered.{if_err_left}
 use Rattle.algol_expr.specs.declared.stop.Stop.{Stop}
 use Rattle.algol_expr.proofs.Turns.{takes_step, opens_step, skips_step, makes_step, make_step, deep_step}
 
@@ -63,15 +64,10 @@ pub completes_done : {s : Due} {tokens rest : List Token} {v w : Value} → Reac
 completes_done {s = s} {tokens = tokens} {rest = rest} r is b c = subst (λ x. Completes s tokens x rest) (sym is)
     (record { run = λ due vs. r.run due vs; ended = b; no_longer = c })
 
--- the error of a `?` is the callee's
-pub left_as : {T E : Type 0} (r : Result T E) (P : E → Type 0) (e : E) → IsErrAnd r (λ x. x ≡ e) → P e → IfErr r P
-left_as (Ok x) P e p h = absurd p
-left_as (Err y) P e p h = subst P (sym p) h
-
 -- want of memory is no refusal
 pub no_memory : {T : Type 0} (r : Result T Stop) (from : List Due) (us : List Value) (tokens : List Token) (e : Stop) → IsErrAnd r (λ x. x ≡ e) →
     e.refusal ≡ NoMemory → IfErr r (λ e. Fails from us tokens e.left e.refusal)
-no_memory r from us tokens e p q = left_as r (λ e. Fails from us tokens e.left e.refusal) e p
+no_memory r from us tokens e p q = if_err_left r (λ e. Fails from us tokens e.left e.refusal) e p
     (record { run = λ spot code at due vs. let no : NoMemory ≡ At spot code = sym q ∙ at in cc })
 
 -- a result that is returned as it is
@@ -80,10 +76,6 @@ module _ {T : Type 0} (r : Result T Stop) (tree : T → Value) (end : T → List
       IfOk r (λ x. ReaderFinds p tokens (tree x) (end x)) → IfOk r (λ x. ReaderFinds s tokens (tree x) (end x))
   finds_as a h = IfOk-weaker r _ _ (λ x f. record { run = (via a f).run; behind = f.behind }) h
 
-  pub extends_to : {s m : Due} {tokens mid : List Token} {left : Value} → Reaches (s ∷ []) [] tokens (m ∷ []) (left ∷ []) mid → length mid < length tokens →
-      IfOk r (λ x. Extends m mid left (tree x) (end x)) → IfOk r (λ x. ReaderFinds s tokens (tree x) (end x))
-  extends_to a b h = IfOk-weaker r _ _ (λ x f. record { run = (extending a f).run; behind = record { ended = f.ended; shorter = omega (arith, f.no_longer) } }) h
-
   pub completes_to : {s n : Due} {tokens mid : List Token} → Reaches (s ∷ []) [] tokens (n ∷ []) [] mid → length mid < length tokens →
       IfOk r (λ x. Completes n mid (tree x) (end x)) → IfOk r (λ x. ReaderFinds s tokens (tree x) (end x))
   completes_to a b h = IfOk-weaker r _ _ (λ x f. record { run = (completing a f).run; behind = record { ended = f.ended; shorter = omega (arith, f.no_longer) } }) h
@@ -91,10 +83,6 @@ module _ {T : Type 0} (r : Result T Stop) (tree : T → Value) (end : T → List
 pub fails_as : {T : Type 0} (r : Result T Stop) {from : List Due} {us : List Value} {p : Due} {tokens mid : List Token} {ds : List Due} {ws : List Value} →
     Reaches from us tokens (p ∷ ds) ws mid → IfErr r (λ e. Fails (p ∷ []) [] mid e.left e.refusal) → IfErr r (λ e. Fails from us tokens e.left e.refusal)
 fails_as r a h = if_err r _ _ (λ e f. failing a f) h
-
-pub fails_on : {T : Type 0} (r : Result T Stop) {from : List Due} {us : List Value} {p : Due} {tokens mid : List Token} {ds : List Due} {ws : List Value} {left : Value} →
-    Reaches from us tokens (p ∷ ds) (left ∷ ws) mid → IfErr r (λ e. Fails (p ∷ []) (left ∷ []) mid e.left e.refusal) → IfErr r (λ e. Fails from us tokens e.left e.refusal)
-fails_on r a h = if_err r _ _ (λ e f. failing_on a f) h
 
 pub rest_of : {tokens mid rest : List Token} → IsRest tokens mid → IsRest mid rest → IsRest tokens rest
 rest_of p q = record { ended = q.ended; shorter = omega arith }

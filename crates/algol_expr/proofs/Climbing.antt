@@ -17,7 +17,7 @@ use Rattle.algol_expr.specs.declared.step.Start.{Start}
 use Rattle.algol_expr.specs.declared.step.Start.TheVariants.{Not, Sign, Primary}
 use Rattle.algol_expr.specs.declared.step.Step.{Step}
 use Rattle.algol_expr.specs.declared.step.Step.TheVariants.{Operators, Relation}
-use Rattle.algol_expr.specs.Steps.{not_or, sign_or_primary, start_of, IsStart, first_place, end_place, steps, part_of_step, due_of, begins_with, leaves, ExprBegins}
+use Rattle.algol_expr.specs.Steps.{not_or, sign_or_primary, start_of, steps, part_of_step, due_of, begins_with, leaves, ExprBegins}
 use Rattle.algol_expr.proofs.Chain.{Reaches, starting, turning, extending, failing, failing_on, done}
 use Rattle.algol_expr.proofs.Starts.{level_starts, not_is, rel_starts}
 
@@ -37,21 +37,9 @@ not_sign : (b : Bool) → Not ≡ sign_or_primary b → ⊥
 not_sign true e = cc
 not_sign false e = cc
 
-not_then : (a b : Bool) → Not ≡ not_or a (sign_or_primary b) → a ≡ true
-not_then true b e = refl
-not_then false b e = absurd (not_sign b e)
-
 sign_not : (a b : Bool) → Sign ≡ not_or a (sign_or_primary b) → a ≡ false
 sign_not true b e = cc
 sign_not false b e = refl
-
-sign_then : (b : Bool) → Sign ≡ sign_or_primary b → b ≡ true
-sign_then true e = refl
-sign_then false e = cc
-
-sign_there : (a b : Bool) → Sign ≡ not_or a (sign_or_primary b) → b ≡ true
-sign_there true b e = cc
-sign_there false b e = sign_then b e
 
 primary_then : (b : Bool) → Primary ≡ sign_or_primary b → b ≡ false
 primary_then true e = cc
@@ -64,53 +52,6 @@ primary_not false b e = refl
 primary_there : (a b : Bool) → Primary ≡ not_or a (sign_or_primary b) → b ≡ false
 primary_there true b e = cc
 primary_there false b e = primary_then b e
-
-module _ (t : Token) (ts : List Token) where
-  starts_so : (last : Step) (start : Start) → start ≡ start_of last t.kind → IsStart start (t ∷ ts)
-  starts_so last Primary e = tt
-  starts_so (Operators levels.Term) Not e = cc
-  starts_so (Operators levels.Term) Sign e = cc
-  starts_so (Operators levels.Sum) Not e = absurd (not_sign (is_sign t.kind) e)
-  starts_so (Operators levels.Sum) Sign e = sign_then (is_sign t.kind) e
-  starts_so Relation Not e = not_then (is_word reserved.Not t.kind) (is_sign t.kind) e
-  starts_so Relation Sign e = sign_there (is_word reserved.Not t.kind) (is_sign t.kind) e
-  starts_so (Operators levels.And) Not e = not_then (is_word reserved.Not t.kind) (is_sign t.kind) e
-  starts_so (Operators levels.And) Sign e = sign_there (is_word reserved.Not t.kind) (is_sign t.kind) e
-  starts_so (Operators levels.Or) Not e = not_then (is_word reserved.Not t.kind) (is_sign t.kind) e
-  starts_so (Operators levels.Or) Sign e = sign_there (is_word reserved.Not t.kind) (is_sign t.kind) e
-  starts_so (Operators levels.Imp) Not e = not_then (is_word reserved.Not t.kind) (is_sign t.kind) e
-  starts_so (Operators levels.Imp) Sign e = sign_there (is_word reserved.Not t.kind) (is_sign t.kind) e
-  starts_so (Operators levels.Eqv) Not e = not_then (is_word reserved.Not t.kind) (is_sign t.kind) e
-  starts_so (Operators levels.Eqv) Sign e = sign_there (is_word reserved.Not t.kind) (is_sign t.kind) e
-
-  lies_within : (last : Step) (start : Start) → start ≡ start_of last t.kind → first_place start ≤ end_place last
-  lies_within (Operators levels.Term) Primary e = omega arith
-  lies_within (Operators levels.Term) Not e = cc
-  lies_within (Operators levels.Term) Sign e = cc
-  lies_within (Operators levels.Sum) Not e = absurd (not_sign (is_sign t.kind) e)
-  lies_within (Operators levels.Sum) Sign e = omega arith
-  lies_within (Operators levels.Sum) Primary e = omega arith
-  lies_within Relation Not e = omega arith
-  lies_within Relation Sign e = omega arith
-  lies_within Relation Primary e = omega arith
-  lies_within (Operators levels.And) Not e = omega arith
-  lies_within (Operators levels.And) Sign e = omega arith
-  lies_within (Operators levels.And) Primary e = omega arith
-  lies_within (Operators levels.Or) Not e = omega arith
-  lies_within (Operators levels.Or) Sign e = omega arith
-  lies_within (Operators levels.Or) Primary e = omega arith
-  lies_within (Operators levels.Imp) Not e = omega arith
-  lies_within (Operators levels.Imp) Sign e = omega arith
-  lies_within (Operators levels.Imp) Primary e = omega arith
-  lies_within (Operators levels.Eqv) Not e = omega arith
-  lies_within (Operators levels.Eqv) Sign e = omega arith
-  lies_within (Operators levels.Eqv) Primary e = omega arith
-
-pub is_start : (last : Step) (start : Start) (tokens : List Token) (t : Token) (ts : List Token) → tokens ≡ t ∷ ts → start ≡ start_of last t.kind → IsStart start tokens
-is_start last start tokens t ts is e = subst (λ x. IsStart start x) (sym is) (starts_so t ts last start e)
-
-pub is_within : (last : Step) (start : Start) (t : Token) → start ≡ start_of last t.kind → first_place start ≤ end_place last
-is_within last start t e = lies_within t [] last start e
 
 -- what is due first of a part
 

@@ -86,13 +86,13 @@ ends_sum : (rest : List Token) → Ends rel rest → Ends (level levels.Sum) res
 ends_sum [] e = tt
 ends_sum (t ∷ rest) e = (rel_ends t.kind e).0
 
-pub all_of-behind : (acc : PExprs) (e : PExpr) (es : PExprs) → all_of (behind acc e) es ≡ all_of acc (more e es)
-all_of-behind none e es = refl
-all_of-behind (more x acc) e es = ap (more x) (all_of-behind acc e es)
+pub all_of_behind : (acc : PExprs) (e : PExpr) (es : PExprs) → all_of (behind acc e) es ≡ all_of acc (more e es)
+all_of_behind none e es = refl
+all_of_behind (more x acc) e es = ap (more x) (all_of_behind acc e es)
 
-pub behind-all_of : (acc : PExprs) (e : PExpr) → behind acc e ≡ all_of acc (more e none)
-behind-all_of none e = refl
-behind-all_of (more x acc) e = ap (more x) (behind-all_of acc e)
+pub behind_all_of : (acc : PExprs) (e : PExpr) → behind acc e ≡ all_of acc (more e none)
+behind_all_of none e = refl
+behind_all_of (more x acc) e = ap (more x) (behind_all_of acc e)
 
 -- the token of an event's name makes what may stand after it due
 event_step : (free : ℕ) (t : Token) (n : Named) (ts : List Token) (due : List Due) (vs : List Value) → IsName n t →
@@ -236,22 +236,10 @@ mutual
       part_read free expr d from e (v ∷ rest) x (ap (part_ends expr) c ∙ end) _ _
       ∙ make_step free (v ∷ rest) list_made _ _
       ∙ exprs_left free d s v rest due _ c comma
-      ∙ ap (λ es. read free rest due (many es ∷ vs)) (behind-all_of acc e)
+      ∙ ap (λ es. read free rest due (many es ∷ vs)) (behind_all_of acc e)
   exprs_read free _ _ _ v rest s acc due vs (grammar.comma t d e es from after _ x k y) c end comma =
       part_read free expr d from e (t ∷ after) x (ap (part_ends expr) k) _ _
       ∙ make_step free (t ∷ after) list_made _ _
       ∙ takes_step free t after (exprs_more d) _ _ _ (ap (λ k. either (is_symbol symbols.Comma k) (takes plain (part expr d ∷ make list_made ∷ exprs_more d ∷ [])) skips) k)
       ∙ exprs_read free d after es v rest s (behind acc e) due vs y c end comma
-      ∙ ap (λ es. read free rest due (many es ∷ vs)) (all_of-behind acc e es)
-
-pub nothing_ends : (p : Part) → Ends p []
-nothing_ends expr = tt
-nothing_ends (level levels.Eqv) = tt
-nothing_ends (level levels.Imp) = tt
-nothing_ends (level levels.Or) = tt
-nothing_ends (level levels.And) = tt
-nothing_ends (level levels.Sum) = tt
-nothing_ends (level levels.Term) = tt
-nothing_ends not_part = tt
-nothing_ends rel = tt
-nothing_ends primary = tt
+      ∙ ap (λ es. read free rest due (many es ∷ vs)) (all_of_behind acc e es)

@@ -1,5 +1,5 @@
 -- The tokens that no part goes on with.
-use Rattle.std.proofs.Common.{◌≡◌, Bool, true, false, ◌&&◌, Option, Some, None, refl}
+use Rattle.std.proofs.Common.{◌≡◌, true, false, ◌&&◌, Option, Some, None, refl}
 use Rattle.algol_tree.specs.declared.token.TokenKind.{TokenKind}
 use Rattle.algol_tree.specs.declared.token.TokenKind.TheVariants as kinds
 use Rattle.algol_tree.specs.declared.token.Reserved.TheVariants as reserved
@@ -10,6 +10,7 @@ use Rattle.algol_tree.specs.declared.level.Level.TheVariants as levels
 use Rattle.algol_tree.specs.Tokens.{is_symbol}
 use Rattle.algol_tree.specs.Operators.{level, rel, operand, operator, relop}
 use Rattle.algol_tree.specs.Ends.{nothing, ends_primary, part_ends}
+use Rattle.b67_list.proofs.Truths.{and_both}
 
 pub level_ends : (l : Level) (k : TokenKind) → part_ends (level l) k ≡ (part_ends (operand l) k && nothing (operator l k))
 level_ends levels.Eqv k = refl
@@ -18,11 +19,6 @@ level_ends levels.Or k = refl
 level_ends levels.And k = refl
 level_ends levels.Sum k = refl
 level_ends levels.Term k = refl
-
-pub both : (a b : Bool) → (a && b) ≡ true → (a ≡ true) × (b ≡ true)
-both true true e = (refl, refl)
-both true false e = cc
-both false b e = cc
 
 pub nothing_is : (o : Option Op) → nothing o ≡ true → o ≡ None
 nothing_is None e = refl
@@ -59,17 +55,17 @@ relop_ends k op e = cc
 
 -- what a level begins with ends before what the level goes on with
 pub operand_ends : (l : Level) (k : TokenKind) → part_ends (level l) k ≡ true → part_ends (operand l) k ≡ true
-operand_ends l k e = (both (part_ends (operand l) k) (nothing (operator l k)) (sym' e)).0
+operand_ends l k e = (and_both (part_ends (operand l) k) (nothing (operator l k)) (sym' e)).0
   where
     sym' : part_ends (level l) k ≡ true → (part_ends (operand l) k && nothing (operator l k)) ≡ true
     sym' e = rw (level_ends l k) at e
 
 -- and the level doesn't go on
 pub level_over : (l : Level) (k : TokenKind) → part_ends (level l) k ≡ true → operator l k ≡ None
-level_over l k e = nothing_is (operator l k) (both (part_ends (operand l) k) (nothing (operator l k)) (rw (level_ends l k) at e)).1
+level_over l k e = nothing_is (operator l k) (and_both (part_ends (operand l) k) (nothing (operator l k)) (rw (level_ends l k) at e)).1
 
 pub rel_ends : (k : TokenKind) → part_ends rel k ≡ true → (part_ends (level levels.Sum) k ≡ true) × (relop k ≡ None)
-rel_ends k e = let p = both (part_ends (level levels.Sum) k) (nothing (relop k)) e in (p.0, nothing_is (relop k) p.1)
+rel_ends k e = let p = and_both (part_ends (level levels.Sum) k) (nothing (relop k)) e in (p.0, nothing_is (relop k) p.1)
 
 pub primary_over : (k : TokenKind) → ends_primary k ≡ true → (is_symbol symbols.OpenSquare k ≡ false) × (is_symbol symbols.OpenRound k ≡ false)
 primary_over (kinds.Symbol symbols.OpenSquare) e = cc

@@ -21,4 +21,4 @@ mod Relations
 pub mod Lift
 pub mod Public
 mod Places
-mod Arms
+pub mod Arms

@@ -14,7 +14,7 @@ use Rattle.algol_tree.specs.Expressions.{IsShortExpression}
 use Rattle.algol_tree.specs.Due.{Value, Due, part, whole, whole_ends, plain, nests, label, begun, Turn, takes, makes, skips, closes, refuses, followed, begins}
 use Rattle.algol_tree.specs.DueExpr.{turn_expr}
 use Rattle.algol_tree.specs.Reading.{reading_turn, Count, outside, inside, full, Judged, ReadingStep, goes, over, stops, unless, stepped, step, to, refused, read_on, read_end, judged, unjudged, nowhere, reading, read}
-use Rattle.algol_expr.proofs.Reading.{Takes, taken, refused_, joined, step-append}
+use Rattle.algol_expr.proofs.Reading.{Takes, taken, refused_, joined, step_append}
 use Rattle.algol_expr.proofs.Sound.{part_takes}
 use Rattle.algol_expr.proofs.Exact.{IsLater}
 use Rattle.algol_expr.proofs.Inner.{Inners, Stays, inner_stays}
@@ -164,7 +164,7 @@ module _ (free : ℕ) (due : List Due) where
       at_end (over n us) is e =
           let p : (us ≡ ws) × ([] ≡ rest) = (cc, cc) in
           let o = over_inside unjudged c a nowhere kinds.End vs n us i is in
-          ap read_end (step-append unjudged a (whole_ends ∷ due) nowhere kinds.End (inside c) vs
+          ap read_end (step_append unjudged a (whole_ends ∷ due) nowhere kinds.End (inside c) vs
           ∙ ap (λ x. joined x (whole_ends ∷ due) (step unjudged (whole_ends ∷ due) nowhere kinds.End)) o)
           ∙ ap (λ x. read free [] due x) p.0 ∙ ap (λ x. read free x due ws) p.1
       at_end (stops spot code) is e = cc
@@ -180,13 +180,13 @@ module _ (free : ℕ) (due : List Due) where
           let e2 : read free ts ds us ≡ to rest ws = subst (λ n. reading free ts n ds us ≡ to rest ws) (sym g.0) e in
           let le = to_shorter free ts outside ds us rest ws e2 in
           let h = goes_inside (judged free (t ∷ ts)) c a t.spot t.kind vs n ds us i (room_here free c t ts (length rest) (omega (arith, le)) room) is in
-          ap (λ x. read_on x t ts (reading free ts)) (step-append (judged free (t ∷ ts)) a (whole_ends ∷ due) t.spot t.kind (inside c) vs
+          ap (λ x. read_on x t ts (reading free ts)) (step_append (judged free (t ∷ ts)) a (whole_ends ∷ due) t.spot t.kind (inside c) vs
           ∙ ap (λ x. joined x (whole_ends ∷ due) (step (judged free (t ∷ ts)) (whole_ends ∷ due) t.spot t.kind)) h)
           ∙ more ds us g.1 (room_next free c t ts (length rest) room) e2
       at_token (over n us) is e more =
           let p : (us ≡ ws) × (t ∷ ts ≡ rest) = (cc, cc) in
           let o = over_inside (judged free (t ∷ ts)) c a t.spot t.kind vs n us i is in
-          ap (λ x. read_on x t ts (reading free ts)) (step-append (judged free (t ∷ ts)) a (whole_ends ∷ due) t.spot t.kind (inside c) vs
+          ap (λ x. read_on x t ts (reading free ts)) (step_append (judged free (t ∷ ts)) a (whole_ends ∷ due) t.spot t.kind (inside c) vs
           ∙ ap (λ x. joined x (whole_ends ∷ due) (step (judged free (t ∷ ts)) (whole_ends ∷ due) t.spot t.kind)) o)
           ∙ ap (λ x. read free (t ∷ ts) due x) p.0 ∙ ap (λ x. read free x due ws) p.1
       at_token (stops spot code) is e more = cc
@@ -213,13 +213,13 @@ module _ (free : ℕ) (due : List Due) where
           let e2 : read free ts ds us ≡ refused left spot code = subst (λ n. reading free ts n ds us ≡ refused left spot code) (sym g.0) e in
           let le = refused_shorter free ts outside ds us left spot code e2 in
           let h = goes_inside (judged free (t ∷ ts)) c a t.spot t.kind vs n ds us i (room_here free c t ts left (omega (arith, le)) room) is in
-          ap (λ x. read_on x t ts (reading free ts)) (step-append (judged free (t ∷ ts)) a (whole_ends ∷ due) t.spot t.kind (inside c) vs
+          ap (λ x. read_on x t ts (reading free ts)) (step_append (judged free (t ∷ ts)) a (whole_ends ∷ due) t.spot t.kind (inside c) vs
           ∙ ap (λ x. joined x (whole_ends ∷ due) (step (judged free (t ∷ ts)) (whole_ends ∷ due) t.spot t.kind)) h)
           ∙ more ds us g.1 (room_next free c t ts left room) e2
       at_token (over n us) is e more = cc
       at_token (stops place k) is e more =
           let h = stop_inside (judged free (t ∷ ts)) c a t.spot t.kind vs place k i is in
-          ap (λ x. read_on x t ts (reading free ts)) (step-append (judged free (t ∷ ts)) a (whole_ends ∷ due) t.spot t.kind (inside c) vs
+          ap (λ x. read_on x t ts (reading free ts)) (step_append (judged free (t ∷ ts)) a (whole_ends ∷ due) t.spot t.kind (inside c) vs
           ∙ ap (λ x. joined x (whole_ends ∷ due) (step (judged free (t ∷ ts)) (whole_ends ∷ due) t.spot t.kind)) h)
           ∙ e
 
@@ -234,7 +234,7 @@ long_inside due [] t rest c a vs i at later = at_token (step (judged 0 (t ∷ re
         reading 0 (t ∷ rest) (inside c) (a ++ whole_ends ∷ due) vs ≡ refused (length (t ∷ rest)) t.spot codes.TooDeep
     at_token (goes n ds us) is later =
         let f : (full (inside c) && (judged 0 (t ∷ rest)).here) ≡ true = grind (arith, nat_tests) in
-        ap (λ x. read_on x t rest (reading 0 rest)) (step-append (judged 0 (t ∷ rest)) a (whole_ends ∷ due) t.spot t.kind (inside c) vs
+        ap (λ x. read_on x t rest (reading 0 rest)) (step_append (judged 0 (t ∷ rest)) a (whole_ends ∷ due) t.spot t.kind (inside c) vs
         ∙ ap (λ x. joined x (whole_ends ∷ due) (step (judged 0 (t ∷ rest)) (whole_ends ∷ due) t.spot t.kind))
         (full_inside (judged 0 (t ∷ rest)) c a t.spot t.kind vs n ds us i f is))
     at_token (over n us) is later = absurd (omega arith)
@@ -250,7 +250,7 @@ long_inside due (u ∷ front) t rest c a vs i at later = at_token (step (judged 
     at_token (goes n ds us) is later more =
         let g = inner_goes (judged 0 (u ∷ (front ++ t ∷ rest))) a u.spot u.kind vs n ds us i is in
         let f : (full (inside c) && (judged 0 (u ∷ (front ++ t ∷ rest))).here) ≡ false = grind (arith, nat_tests, at) in
-        ap (λ x. read_on x u (front ++ t ∷ rest) (reading 0 (front ++ t ∷ rest))) (step-append (judged 0 (u ∷ (front ++ t ∷ rest))) a (whole_ends ∷ due) u.spot u.kind (inside c) vs
+        ap (λ x. read_on x u (front ++ t ∷ rest) (reading 0 (front ++ t ∷ rest))) (step_append (judged 0 (u ∷ (front ++ t ∷ rest))) a (whole_ends ∷ due) u.spot u.kind (inside c) vs
         ∙ ap (λ x. joined x (whole_ends ∷ due) (step (judged 0 (u ∷ (front ++ t ∷ rest))) (whole_ends ∷ due) u.spot u.kind))
         (goes_inside (judged 0 (u ∷ (front ++ t ∷ rest))) c a u.spot u.kind vs n ds us i f is))
         ∙ more ds us g.1 (subst (λ n. IsLater (reading 0 (front ++ t ∷ rest) n ds us) (length (t ∷ rest))) (sym g.0) later)

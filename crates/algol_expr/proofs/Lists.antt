@@ -27,13 +27,13 @@ pub record GoesOn (d : ℕ) (closing : Symbol) (tokens : List Token) (items : Li
   pub ended : EndsOnce rest
   pub no_longer : length rest ≤ length tokens
 
-listed-snoc : (es : List PExpr) (e : PExpr) → behind (listed es) e ≡ listed (es ++ e ∷ [])
-listed-snoc [] e = refl
-listed-snoc (x ∷ es) e = ap (more x) (listed-snoc es e)
+pub listed_snoc : (es : List PExpr) (e : PExpr) → behind (listed es) e ≡ listed (es ++ e ∷ [])
+listed_snoc [] e = refl
+listed_snoc (x ∷ es) e = ap (more x) (listed_snoc es e)
 
 -- one item more
-one_more : (found new : List Expr) (item : Expr) → new ≡ found ++ item ∷ [] → behind (plain_list found) (image.expr item) ≡ plain_list new
-one_more found new item e = listed-snoc (map image.expr found) (image.expr item) ∙ ap listed (sym (map-append image.expr found (item ∷ []))) ∙ ap plain_list (sym e)
+pub one_more : (found new : List Expr) (item : Expr) → new ≡ found ++ item ∷ [] → behind (plain_list found) (image.expr item) ≡ plain_list new
+one_more found new item e = listed_snoc (map image.expr found) (image.expr item) ∙ ap listed (sym (map-append image.expr found (item ∷ []))) ∙ ap plain_list (sym e)
 
 -- an item and what is due after it
 item_read : (d : ℕ) (closing : Symbol) (tokens rest after : List Token) (found new : List Expr) (item : Expr) → new ≡ found ++ item ∷ [] →

@@ -16,7 +16,7 @@ use Rattle.algol_tree.specs.Operators.{Part, expr, level, not_part, rel, primary
 use Rattle.algol_tree.specs.Due.{Value, Due, make, part, more_of, relation, plain, nests, takes, skips, refuses, followed, either, optional}
 use Rattle.algol_tree.specs.DueExpr.{is_sign, signs, signed, turn_primary, turn_term, turn_sum, turn_rel, turn_not, turn_and, turn_or, turn_imp, turn_eqv, on_with, of_one}
 use Rattle.algol_tree.specs.Reading.{reading_turn, outside, to, cut_off, reading, read}
-use Rattle.algol_expr.proofs.Reading.{Takes, taken, refused_, followed_takes, either_takes, read-followed, read-at, Leads}
+use Rattle.algol_expr.proofs.Reading.{Takes, taken, refused_, followed_takes, either_takes, read_followed, read_at, Leads}
 use Rattle.algol_expr.proofs.Turns.{word_from, refused_none, skips_step, skips_end, read_nothing}
 use Rattle.algol_expr.proofs.Ends.{operator_end}
 
@@ -98,16 +98,16 @@ not_at free d t ts due vs e = rw e refl
 
 pub rel_at : (free d : ℕ) (ts : List Token) (due : List Due) (vs : List Value) →
     read free ts (part rel d ∷ due) vs ≡ read free ts (part (level levels.Sum) d ∷ relation d ∷ due) vs
-rel_at free d ts due vs = read-followed free outside (part rel d) (part (level levels.Sum) d) (relation d ∷ []) due ts vs (sum_takes d) (λ spot k. refl)
+rel_at free d ts due vs = read_followed free outside (part rel d) (part (level levels.Sum) d) (relation d ∷ []) due ts vs (sum_takes d) (λ spot k. refl)
 
 pub level_at : (free : ℕ) (l : Level) (d : ℕ) (t : Token) (ts : List Token) (due : List Due) (vs : List Value) → signs l t.kind ≡ false →
     read free (t ∷ ts) (part (level l) d ∷ due) vs ≡ read free (t ∷ ts) (part (operand l) d ∷ more_of l d ∷ due) vs
-level_at free levels.Eqv d t ts due vs e = read-followed free outside (part (level levels.Eqv) d) (part (level levels.Imp) d) (more_of levels.Eqv d ∷ []) due (t ∷ ts) vs (imp_takes d) (λ spot k. refl)
-level_at free levels.Imp d t ts due vs e = read-followed free outside (part (level levels.Imp) d) (part (level levels.Or) d) (more_of levels.Imp d ∷ []) due (t ∷ ts) vs (or_takes d) (λ spot k. refl)
-level_at free levels.Or d t ts due vs e = read-followed free outside (part (level levels.Or) d) (part (level levels.And) d) (more_of levels.Or d ∷ []) due (t ∷ ts) vs (and_takes d) (λ spot k. refl)
-level_at free levels.And d t ts due vs e = read-followed free outside (part (level levels.And) d) (part not_part d) (more_of levels.And d ∷ []) due (t ∷ ts) vs (not_takes d) (λ spot k. refl)
-level_at free levels.Term d t ts due vs e = read-followed free outside (part (level levels.Term) d) (part primary d) (more_of levels.Term d ∷ []) due (t ∷ ts) vs (primary_takes d) (λ spot k. refl)
-level_at free levels.Sum d t ts due vs e = read-at free outside (part (level levels.Sum) d) (part (level levels.Term) d) (more_of levels.Sum d ∷ []) due t ts vs (term_takes d t.spot t.kind)
+level_at free levels.Eqv d t ts due vs e = read_followed free outside (part (level levels.Eqv) d) (part (level levels.Imp) d) (more_of levels.Eqv d ∷ []) due (t ∷ ts) vs (imp_takes d) (λ spot k. refl)
+level_at free levels.Imp d t ts due vs e = read_followed free outside (part (level levels.Imp) d) (part (level levels.Or) d) (more_of levels.Imp d ∷ []) due (t ∷ ts) vs (or_takes d) (λ spot k. refl)
+level_at free levels.Or d t ts due vs e = read_followed free outside (part (level levels.Or) d) (part (level levels.And) d) (more_of levels.Or d ∷ []) due (t ∷ ts) vs (and_takes d) (λ spot k. refl)
+level_at free levels.And d t ts due vs e = read_followed free outside (part (level levels.And) d) (part not_part d) (more_of levels.And d ∷ []) due (t ∷ ts) vs (not_takes d) (λ spot k. refl)
+level_at free levels.Term d t ts due vs e = read_followed free outside (part (level levels.Term) d) (part primary d) (more_of levels.Term d ∷ []) due (t ∷ ts) vs (primary_takes d) (λ spot k. refl)
+level_at free levels.Sum d t ts due vs e = read_at free outside (part (level levels.Sum) d) (part (level levels.Term) d) (more_of levels.Sum d ∷ []) due t ts vs (term_takes d t.spot t.kind)
     (ap (λ b. either b (takes plain (part (level levels.Term) d ∷ make (signed t.kind t.spot) ∷ more_of levels.Sum d ∷ []))
     (followed (turn_term d t.spot t.kind) (more_of levels.Sum d ∷ []))) e)
 

@@ -104,10 +104,3 @@ fails_whole d tokens left e f short = record {
   left = left;
   fails = record { run = λ spot code q due vs. whole_refused d tokens vs left spot code (f.run spot code q [] vs) short due };
 }
-
--- want of memory
-pub memory_refused : (d : ℕ) (tokens : List Token) (e : Refusal) → e ≡ NoMemory → RefusedExpression d tokens e × ReaderRefuses (whole d ∷ []) [] tokens e
-memory_refused d tokens e is = (
-  subst (RefusedExpression d tokens) (sym is) tt,
-  record { left = 0; fails = record { run = λ spot code q due vs. let no : NoMemory ≡ At spot code = sym is ∙ q in cc } },
-)

@@ -28,7 +28,7 @@ use Rattle.algol_expr.proofs.Reading.{Takes, taken, refused_, either_takes}
 use Rattle.algol_expr.proofs.Inner.{IsInner}
 use Rattle.algol_expr.proofs.Turns.{word_from, symbol_from, spelled_from}
 use Rattle.algol_expr.proofs.Parts.{primary_takes, term_takes, sum_takes, rel_takes, not_takes, and_takes, or_takes, imp_takes, eqv_takes}
-use Rattle.algol_expr.proofs.Complete.{all_of-behind, behind-all_of}
+use Rattle.algol_expr.proofs.Complete.{all_of_behind, behind_all_of}
 
 -- one token of which P holds
 pub data IsOne (P : Token → Type 0) (vs : List Value) : List Token → List Value → List Token → Type 0 where
@@ -316,7 +316,7 @@ pub leave_exprs : (free d : ℕ) (b : Bool) (vs ws : List Value) (from rest : Li
     Leaves (either b (takes plain (part expr d ∷ make list_made ∷ exprs_more d ∷ [])) skips) vs from ws rest → IsDue free (exprs_more d) vs from ws rest
 leave_exprs free d true vs ws from rest x = absurd x
 leave_exprs free d false vs _ from _ left_out = λ acc e below before is x.
-    subst (λ v. MakesList free d before acc below v from) (ap (λ es. many es ∷ below) (sym (behind-all_of acc e)) ∙ sym is)
+    subst (λ v. MakesList free d before acc below v from) (ap (λ es. many es ∷ below) (sym (behind_all_of acc e)) ∙ sym is)
     (they (more e none) from (grammar.one d e before from x))
 
 pub leave_events : (free : ℕ) (b : Bool) (vs ws : List Value) (from rest : List Token) →
@@ -432,7 +432,7 @@ back_name free n d false false t ts vs ws rest e f x = absurd x
 exprs_chained : (free d : ℕ) (t : Token) (acc : PExprs) (e : PExpr) (before ts : List Token) (below ws : List Value) (rest : List Token) →
     IsExprPart free expr d before e (t ∷ ts) → IsSymbol symbols.Comma t → MakesList free d ts (behind acc e) below ws rest → MakesList free d before acc below ws rest
 exprs_chained free d t acc e before ts below _ _ x c (they es rest y) =
-    subst (λ fs. MakesList free d before acc below (many fs ∷ below) rest) (sym (all_of-behind acc e es)) (they (more e es) rest (grammar.comma t d e es before ts rest x c y))
+    subst (λ fs. MakesList free d before acc below (many fs ∷ below) rest) (sym (all_of_behind acc e es)) (they (more e es) rest (grammar.comma t d e es before ts rest x c y))
 
 back_exprs : (free d : ℕ) (b : Bool) (t : Token) (ts : List Token) (vs ws : List Value) (rest : List Token) → is_symbol symbols.Comma t.kind ≡ b →
     Taken free (either b (takes plain (part expr d ∷ make list_made ∷ exprs_more d ∷ [])) skips) t ts vs ws rest → IsDue free (exprs_more d) vs (t ∷ ts) ws rest

@@ -121,7 +121,7 @@ literal_is d tokens t ts e is p = subst (λ x. Reaches (part primary d ∷ []) [
 pub not_end_literal : (spot : Spot) (k : TokenKind) (e : trees.PExpr) → literal spot k ≡ Some e → k ≡ kinds.End → ⊥
 not_end_literal spot k e p q = let no : None ≡ Some e = sym (ap (literal spot) q) ∙ p in cc
 
-name_is : (k : TokenKind) (name : List ℕ) → name_in k ≡ Some name → k ≡ kinds.Name name
+pub name_is : (k : TokenKind) (name : List ℕ) → name_in k ≡ Some name → k ≡ kinds.Name name
 name_is (kinds.Name n) name e = let same : n ≡ name = cc in ap kinds.Name same
 name_is k name e = cc
 

@@ -1,11 +1,13 @@
 -- Numbers line by line and column by column, where a line or a number comes to them, and the declarations that have these numbers.
 use Rattle.std.proofs.Common.{◌≡◌, ◌≢◌, ◌≤◌, ◌+◌, ℕ, zero, suc, Bool, true, false, List, [], ◌∷◌, ◌++◌, length, Option, Some, None, refl, ap, sym, ◌∙◌, arith, length-append, add-one}
-use Rattle.std.specs.Prelude.{◌==◌, ◌&&◌, if◌then◌else◌, is_some, slice_get, slice_set, Result, Ok, Err, OnOk}
+use Rattle.std.specs.Prelude.{◌==◌, ◌&&◌, if◌then◌else◌, is_some, slice_get, slice_set}
 use Rattle.std.specs.Option.{option_or}
 use Rattle.std.specs.declared.alloc.Global.{Global}
 use Rattle.std.specs.declared.vec.Vec.{Vec}
 use Rattle.std.proofs.lemmas.Bool.Decides.{nat_tests}
 use Rattle.b67_list.specs.Numbered.{numbered}
+use Rattle.b67_list.proofs.Numbers.{number_different, number_told}
+use Rattle.b67_list.proofs.Truths.{and_false}
 use Rattle.algol_tree.specs.declared.token.Spot.{Spot}
 use Rattle.algol_tree.specs.Blocks.{same_spot}
 use Rattle.algol_frames.specs.declared.scopes.Declared.{Declared}
@@ -13,36 +15,17 @@ use Rattle.algol_frames.specs.ByLine.{line_items, number_in_column, number_at_pl
 
 -- ---- a line without numbers that comes after the others
 
-line_put : (lines : List (Vec ℕ Global)) (line : Vec ℕ Global) (n : ℕ) → line.items ≡ [] → line_items (slice_get (lines ++ line ∷ []) n) ≡ line_items (slice_get lines n)
-line_put [] line zero e = e
-line_put [] line (suc n) e = refl
-line_put (l ∷ ls) line zero e = refl
-line_put (l ∷ ls) line (suc n) e = line_put ls line n e
-
-pub bare_line_put : (lines : List (Vec ℕ Global)) (line : Vec ℕ Global) (q : Spot) → line.items ≡ [] → number_at_place (lines ++ line ∷ []) q ≡ number_at_place lines q
-bare_line_put lines line q e = ap (λ ns. number_in_column ns q.column) (line_put lines line q.line e)
-
 -- ---- a line with another number in a column, in place of the line before
-
-different : (a b : ℕ) → a ≢ b → (a == b) ≡ false
-different a b n = grind (arith, nat_tests)
-
-equal : (a b : ℕ) → a ≡ b → (a == b) ≡ true
-equal a b e = grind (arith, nat_tests, e)
-
-never : (b : Bool) → (b && false) ≡ false
-never true = refl
-never false = refl
 
 always : (b : Bool) → (b && true) ≡ b
 always true = refl
 always false = refl
 
 apart : (a b : Spot) → a.line ≢ b.line → same_spot a b ≡ false
-apart a b n = rw (different a.line b.line n) (never (a.column == b.column))
+apart a b n = rw (number_different a.line b.line n) (and_false (a.column == b.column))
 
 beside : (a b : Spot) → a.line ≡ b.line → same_spot a b ≡ (a.column == b.column)
-beside a b e = rw (equal a.line b.line e) (always (a.column == b.column))
+beside a b e = rw (number_told a.line b.line e) (always (a.column == b.column))
 
 changed : (lines : List (Vec ℕ Global)) (n k c number : ℕ) (old new : Vec ℕ Global) (b : Bool) → slice_get lines n ≡ Some old → (n ≢ k → b ≡ false) →
     (n ≡ k → number_in_column new.items c ≡ (if b then number else number_in_column old.items c)) →
@@ -131,7 +114,3 @@ pub placed_already : (ds : List Declared) (d : Declared) (lines : List (Vec ℕ 
     numbered ds (number_at_place lines q) ≡ option_or (numbered ds (number_at_place lines q)) (if same_spot spot q then Some d else None)
 placed_already ds d lines spot q some =
     there_already (numbered ds (number_at_place lines q)) d (same_spot spot q) (λ h. ap (λ n. is_some (numbered ds n)) (same_number lines spot q h) ∙ some)
-
-pub on_ok : {A E : Type 0} (r : Result A E) {P Q : Type 0} → (P → Q) → OnOk r P → OnOk r Q
-on_ok (Ok x) f h = f h
-on_ok (Err e) f h = tt

@@ -6,25 +6,25 @@ use Rattle.algol_tree.specs.declared.token.Spot.{Spot}
 use Rattle.algol_tree.specs.declared.refusal.Code.{Code}
 use Rattle.algol_tree.specs.declared.refusal.Fault.{Fault}
 use Rattle.algol_tree.specs.Accepted.{broken, noted_all}
-use Rattle.algol_rules.proofs.Order.{noted_all-append}
+use Rattle.algol_rules.proofs.Order.{noted_all_append}
 
-pub broken-append : (code : Code) (xs ys : List Spot) → broken code (xs ++ ys) ≡ broken code xs ++ broken code ys
-broken-append code xs ys = map-append (λ (spot : Spot). record { spot = spot; code = code }) xs ys
+pub broken_append : (code : Code) (xs ys : List Spot) → broken code (xs ++ ys) ≡ broken code xs ++ broken code ys
+broken_append code xs ys = map-append (λ (spot : Spot). record { spot = spot; code = code }) xs ys
 
-pub noted-broken : (first : Option Fault) (code : Code) (xs ys : List Spot) →
+pub noted_broken : (first : Option Fault) (code : Code) (xs ys : List Spot) →
     noted_all first (broken code (xs ++ ys)) ≡ noted_all (noted_all first (broken code xs)) (broken code ys)
-noted-broken first code xs ys = ap (noted_all first) (broken-append code xs ys) ∙ noted_all-append first (broken code xs) (broken code ys)
+noted_broken first code xs ys = ap (noted_all first) (broken_append code xs ys) ∙ noted_all_append first (broken code xs) (broken code ys)
 
 -- one more item of a list of which each has places
-pub note-item : {A : Type 0} (code : Code) (f : A → List Spot) (xs : List A) (i : ℕ) (x : A) (now new all : Option Fault) → i < length xs → x ≡ get_or xs i x →
+pub note_item : {A : Type 0} (code : Code) (f : A → List Spot) (xs : List A) (i : ℕ) (x : A) (now new all : Option Fault) → i < length xs → x ≡ get_or xs i x →
     new ≡ noted_all now (broken code (f x)) → noted_all now (broken code (flat_map f (drop i xs))) ≡ all →
     noted_all new (broken code (flat_map f (drop (i + 1) xs))) ≡ all
-note-item code f xs i x now new all h same k inv =
+note_item code f xs i x now new all h same k inv =
     rw add-one
     (let at : drop i xs ≡ x ∷ drop (suc i) xs = drop-cons xs i x h ∙ ap (λ z. z ∷ drop (suc i) xs) (sym same) in
-    ap (λ z. noted_all z (broken code (flat_map f (drop (suc i) xs)))) k ∙ sym (noted-broken now code (f x) (flat_map f (drop (suc i) xs)))
+    ap (λ z. noted_all z (broken code (flat_map f (drop (suc i) xs)))) k ∙ sym (noted_broken now code (f x) (flat_map f (drop (suc i) xs)))
     ∙ ap (λ z. noted_all now (broken code (flat_map f z))) (sym at) ∙ inv)
 
-pub note-end : {A : Type 0} (code : Code) (f : A → List Spot) (xs : List A) (now all : Option Fault) → xs ≡ [] →
+pub note_end : {A : Type 0} (code : Code) (f : A → List Spot) (xs : List A) (now all : Option Fault) → xs ≡ [] →
     noted_all now (broken code (flat_map f xs)) ≡ all → now ≡ all
-note-end code f xs now all h inv = sym (ap (λ z. noted_all now (broken code (flat_map f z))) h) ∙ inv
+note_end code f xs now all h inv = sym (ap (λ z. noted_all now (broken code (flat_map f z))) h) ∙ inv

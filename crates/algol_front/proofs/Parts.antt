@@ -1,6 +1,5 @@
 -- From the parts of the front end to the whole.
-use Rattle.std.proofs.Common.{◌≡◌, ℕ, ◌≤◌, List, [], length, Some, Result, Ok, Err, IfErr, refl, sym, subst, ap, ◌∙◌}
-use Rattle.std.specs.Result.{IsErrAnd}
+use Rattle.std.proofs.Common.{◌≡◌, ℕ, ◌≤◌, List, [], length, Some, refl, ap, ◌∙◌}
 use Rattle.algol_tree.specs.declared.TheConstants.{MOST_SOURCE_BYTES}
 use Rattle.algol_tree.specs.declared.token.Spot.{Spot}
 use Rattle.algol_tree.specs.declared.token.Token.{Token}
@@ -16,11 +15,6 @@ use Rattle.algol_tree.specs.First.{Source, First, in_text, in_grammar, in_tree}
 use Rattle.algol_lexer.specs.Outcome.{RefusedOnly}
 use Rattle.algol_scope.specs.Resolved as names
 use Rattle.algol_front.specs.Refusing.{RefusesFirst}
-
--- the error of a `?` is the part's
-pub left_as : {T E : Type 0} (r : Result T E) (P : E → Type 0) (e : E) → IsErrAnd r (λ x. x ≡ e) → P e → IfErr r P
-left_as (Ok x) P e p h = absurd p
-left_as (Err y) P e p h = subst P (sym p) h
 
 -- ---- a text without tokens
 

@@ -4,7 +4,6 @@ use Rattle.std.specs.Prelude.{position, nat_le, unsigned_abs}
 use Rattle.std.specs.Char.{to_ascii_uppercase}
 use Rattle.std.specs.List.{list_all}
 use Rattle.std.proofs.lemmas.Bool.Decides.{nat_tests}
-use Rattle.std.proofs.lemmas.List.{length-map}
 use Rattle.b67_num.specs.Whole.{most}
 use Rattle.algol_tree.specs.declared.TheConstants.{MOST_NAME_BYTES}
 use Rattle.algol_tree.specs.declared.refusal.Code.{Code}
@@ -14,9 +13,11 @@ use Rattle.algol_tree.specs.declared.token.Reserved.TheVariants as reserved
 use Rattle.algol_tree.specs.declared.token.Symbol.TheVariants as symbols
 use Rattle.algol_tree.specs.declared.token.TokenKind.{TokenKind}
 use Rattle.algol_tree.specs.declared.token.TokenKind.TheVariants as kinds
-use Rattle.algol_tree.specs.Spelling.{is_blank, is_letter, is_name, Spells}
-use Rattle.algol_tree.specs.Spelling as spellings
+use Rattle.algol_tree.specs.Spelling.{is_blank, is_letter, is_name}
 use Rattle.algol_tree.specs.Lexes.{Mode, Program, Comment, EndRemark, Front, Piece, Wrong, capitals, IsSpelled, token_of, front_of, remark_front, is_quote, is_printable, string_or, string_front, TokenStands, blank, percent, spelled, closed, unclosed, none, closing, commented, remarked, semicolon, period, passed}
+use Rattle.algol_lexer.proofs.LexOnly.{spelled_some as token_some}
+use Rattle.algol_lexer.proofs.LexTexts.{spells_no_end}
+use Rattle.b67_list.proofs.Truths.{not_false}
 use Rattle.algol_front_laws.proofs.Spelled.{name_spelled, spelled_some, letter_name, Token, NoToken, longest_token}
 
 -- ---- what stands there fits
@@ -55,24 +56,15 @@ module _ (size n : ℕ) (some : 0 < size) (within : size ≤ n) where
   remark_fits (kinds.Symbol s) = (some, within, tt)
   remark_fits kinds.End = (some, within, tt)
 
-no_end : {bytes : List ℕ} {k : TokenKind} → Spells bytes k → k ≡ kinds.End → ⊥
-no_end (spellings.word w) e = cc
-no_end (spellings.name bytes h other) e = cc
-no_end (spellings.number bytes h) e = cc
-no_end (spellings.symbol s) e = cc
-
 string_fits : (inside : List ℕ) (n : ℕ) (bad : Option ℕ) → length inside + 2 ≤ n → FitsIn (string_or inside bad) n
 string_fits inside n None within = (omega arith, within, λ e. cc)
 string_fits inside n (Some k) within = tt
-
-token_some : (bytes : List ℕ) (k : TokenKind) → IsSpelled bytes k → 0 < length bytes
-token_some bytes k s = omega (arith, spelled_some s, length-map bytes to_ascii_uppercase)
 
 pub stands_fit : {m : Mode} {text : List ℕ} {f : Front} → TokenStands m text f → FitsIn f (length text)
 stands_fit (blank b after h) = (omega arith, omega arith, tt)
 stands_fit (percent after) = (omega arith, omega arith, tt)
 stands_fit (spelled bytes after k s l) =
-    front_fits (length bytes) (length (bytes ++ after)) (token_some bytes k s) (omega (arith, length-append bytes after)) k (no_end s)
+    front_fits (length bytes) (length (bytes ++ after)) (token_some bytes k s) (omega (arith, length-append bytes after)) k (spells_no_end s)
 stands_fit (closed inside after h) =
     string_fits inside (length (34 ∷ (inside ++ 34 ∷ after))) (position (λ b. not (is_printable b)) inside) (omega (arith, length-append inside (34 ∷ after)))
 stands_fit (unclosed after h) = tt
@@ -105,10 +97,6 @@ is b c = by_test (b == c) refl
     by_test : (t : Bool) → (b == c) ≡ t → Is b c
     by_test true e = same (grind (arith, nat_tests))
     by_test false e = other (λ h. grind (arith, nat_tests))
-
-not_false : (b : Bool) → b ≡ false → not b ≡ true
-not_false true e = cc
-not_false false e = refl
 
 -- ---- strings
 

@@ -1,7 +1,7 @@
 -- Each text is tokens, or cannot be read somewhere.
-use Rattle.std.proofs.Common.{◌≡◌, ℕ, zero, suc, ◌+◌, ◌-◌, ◌<◌, ◌≤◌, Bool, true, false, cond, Option, Some, None, List, [], ◌∷◌, ◌++◌, length, drop, length-drop, append_assoc, append-nil, refl, sym, ◌∙◌, ap, subst, arith}
+use Rattle.std.proofs.Common.{◌≡◌, ℕ, zero, suc, ◌+◌, ◌-◌, ◌<◌, ◌≤◌, Bool, true, false, Option, Some, None, List, [], ◌∷◌, ◌++◌, length, drop, length-drop, append_assoc, append-nil, refl, sym, ◌∙◌, ap, subst, arith}
 use Rattle.std.specs.Prelude.{nat_le}
-use Rattle.std.specs.List.{slice_split, onto_first}
+use Rattle.std.specs.List.{slice_split}
 use Rattle.std.proofs.lemmas.Bool.Decides.{nat_tests}
 use Rattle.algol_tree.specs.declared.TheConstants.{MOST_RECORD_BYTES}
 use Rattle.algol_tree.specs.declared.refusal.Code.{Code}
@@ -13,6 +13,8 @@ use Rattle.algol_tree.specs.declared.token.TokenKind.TheVariants as kinds
 use Rattle.algol_tree.specs.Ended.{EndsOnce}
 use Rattle.algol_tree.specs.Records.{Record, is_line_feed, records_from, records_of, columns, spot_in}
 use Rattle.algol_tree.specs.Lexes.{Mode, Program, Front, Piece, Wrong, TokenStands, token_at, end_of_text, Gives, stays, piece, IsRead, AreRead, all, next, Lexes, Fails, wrong, long, TextIsRefused}
+use Rattle.algol_lexer.proofs.LexRecords.{split_some}
+use Rattle.algol_lexer.proofs.LexTexts.{ends_at}
 use Rattle.algol_front_laws.proofs.Fronts.{IsNoEnd, FitsIn, stands_fit, something_stands}
 
 -- ---- a record
@@ -111,14 +113,10 @@ lexed_or_refused bytes = by_records (all_readable (records_of bytes) Program)
 abbrev Passes : List Token → Type 0
 Passes ts = (t : Token) (more : List Token) → EndsOnce (t ∷ more) → EndsOnce (ts ++ t ∷ more)
 
-ends_behind : (t : Token) (ts : List Token) → (t.kind ≡ kinds.End → ⊥) → EndsOnce ts → EndsOnce (t ∷ ts)
-ends_behind t [] other h = absurd h
-ends_behind t (u ∷ us) other h = (other, h)
-
 passes_token : (r : Record) (at size : ℕ) (kind : Option TokenKind) (ts : List Token) → IsNoEnd kind → Passes ts → Passes (token_at r at size kind ++ ts)
 passes_token r at size None ts h p t more e = p t more e
 passes_token r at size (Some k) ts h p t more e =
-    ends_behind (record { kind = k; spot = spot_in r at; from = r.from + at; to = r.from + (at + size) }) (ts ++ t ∷ more) h (p t more e)
+    ends_at (record { kind = k; spot = spot_in r at; from = r.from + at; to = r.from + (at + size) }) (ts ++ t ∷ more) h (p t more e)
 
 passes_append : (ts us : List Token) → Passes ts → Passes us → Passes (ts ++ us)
 passes_append ts [] p q t more e = subst (λ (l : List Token). EndsOnce (l ++ t ∷ more)) (sym (append-nil ts)) (p t more e)
@@ -146,20 +144,8 @@ records_end [] line from some = absurd (omega (arith, some))
 records_end (part ∷ []) line from some = last_ends _ []
 records_end (part ∷ other ∷ parts) line from some = last_ends _ _
 
-parts_some : (p : ℕ → Bool) (xs : List ℕ) → 0 < length (slice_split p xs)
-parts_some p [] = omega arith
-parts_some p (x ∷ xs) = by_test (p x)
-  where
-    onto_some : (parts : List (List ℕ)) → 0 < length (onto_first x parts)
-    onto_some [] = omega arith
-    onto_some (part ∷ parts) = omega arith
-
-    by_test : (b : Bool) → 0 < length (cond b ([] ∷ slice_split p xs) (onto_first x (slice_split p xs)))
-    by_test true = omega arith
-    by_test false = onto_some (slice_split p xs)
-
 pub tokens_end_once : (bytes : List ℕ) (tokens : List Token) → Lexes bytes tokens → EndsOnce tokens
 unfolding EndsIn
 tokens_end_once bytes tokens l =
-    let e = records_end (slice_split is_line_feed bytes) 1 0 (parts_some is_line_feed bytes) in
+    let e = records_end (slice_split is_line_feed bytes) 1 0 (split_some is_line_feed bytes) in
     subst EndsOnce (sym (l.ended ∙ ap (λ (ts : List Token). l.found ++ ts) e.1)) (passes_read l.read e.0 [] e.2)

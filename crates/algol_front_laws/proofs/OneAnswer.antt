@@ -10,7 +10,7 @@ use Rattle.algol_tree.specs.Lexes.{Lexes}
 use Rattle.algol_tree.specs.Programs.{Reads}
 use Rattle.algol_tree.specs.Accepted.{Accepted, scope_faults, check_faults, first_fault, refusal_after, tree_refusal}
 use Rattle.algol_tree.specs.First.{in_text, in_grammar, in_tree}
-use Rattle.algol_rules.proofs.Order.{first-none}
+use Rattle.algol_rules.proofs.Order.{first_none}
 use Rattle.algol_front.proofs.Sources.{one_source, source_not_refused, one_first}
 use Rattle.algol_front_laws.specs.OneAnswer.{FrontAnswer, accepted, refused, IsAnswered, HasOneAnswer}
 use Rattle.algol_front_laws.proofs.Lexed.{Lexed, lexed, unread, lexed_or_refused, tokens_end_once}
@@ -24,7 +24,7 @@ not_refused tree e = by_first (first_fault (scope_faults tree)) (first_fault (ch
     by_first : (scoped checked : Option Fault) → first_fault (scope_faults tree) ≡ scoped → first_fault (check_faults tree) ≡ checked → refusal_after scoped checked ≡ None →
         Accepted tree
     by_first (Some f) checked s c e = cc
-    by_first None checked s c e = record { scoped = first-none (scope_faults tree) s; checked = first-none (check_faults tree) (c ∙ e) }
+    by_first None checked s c e = record { scoped = first_none (scope_faults tree) s; checked = first_none (check_faults tree) (c ∙ e) }
 
 -- ---- an answer
 

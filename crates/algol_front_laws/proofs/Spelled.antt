@@ -3,7 +3,6 @@ use Rattle.std.proofs.Common.{◌≡◌, ◌⊎◌, inl, inr, ℕ, ◌<◌, Bool
 use Rattle.std.specs.List.{list_all}
 use Rattle.std.specs.Str.{bytes_eq}
 use Rattle.std.proofs.lemmas.Bool.{and_parts}
-use Rattle.std.proofs.lemmas.Bool.Decides.{nat_tests}
 use Rattle.std.proofs.lemmas.Slice.Eq.{bytes_eq-Decides}
 use Rattle.algol_tree.specs.declared.token.Reserved.{Reserved}
 use Rattle.algol_tree.specs.declared.token.Reserved.TheVariants as reserved
@@ -13,6 +12,7 @@ use Rattle.algol_tree.specs.declared.token.TokenKind.{TokenKind}
 use Rattle.algol_tree.specs.declared.token.TokenKind.TheVariants as kinds
 use Rattle.algol_tree.specs.Spelling.{is_letter, is_digit, is_name, is_number, value_of, written, drawn, IsReserved, Spells, word, name, number, symbol}
 use Rattle.algol_tree.specs.Lexes.{capitals, IsSpelled, IsLongest}
+use Rattle.algol_lexer.proofs.LexSpelling.{is_name_written, letter_not_digit}
 
 -- ---- which of some spellings the bytes are
 
@@ -59,11 +59,8 @@ name_spelled bytes h = by_word (by_spelling written words all_words bytes)
     by_word (inl q) = (kinds.Word q.0, subst (λ (l : List ℕ). Spells l (kinds.Word q.0)) (sym q.1) (word q.0))
     by_word (inr other) = (kinds.Name bytes, name bytes h (λ (r : IsReserved bytes). other r.0 r.1))
 
-written_name : (w : Reserved) → is_name (written w) ≡ true
-written_name w = elim w as (λ v. is_name (written v) ≡ true) [ reserved.And ↦ refl | _ ↦ refl ]
-
 no_other : {bytes : List ℕ} {k : TokenKind} → Spells bytes k → is_name bytes ≡ false → is_number bytes ≡ false → ((s : Symbol) → bytes ≡ drawn s → ⊥) → ⊥
-no_other (word w) h i j = let clash : true ≡ false = sym (written_name w) ∙ h in cc
+no_other (word w) h i j = let clash : true ≡ false = sym (is_name_written w) ∙ h in cc
 no_other (name bytes n r) h i j = let clash : true ≡ false = sym n ∙ h in cc
 no_other (number bytes n) h i j = let clash : true ≡ false = sym n ∙ i in cc
 no_other (symbol s) h i j = j s refl
@@ -102,17 +99,14 @@ abbrev pub begins_with_letter : List ℕ → Bool
 begins_with_letter [] = false
 begins_with_letter (b ∷ bytes) = is_letter b
 
-letter_or_digit : (b : ℕ) → is_letter b ≡ true → is_digit b ≡ true → ⊥
-letter_or_digit b l d = grind (arith, nat_tests)
-
 drawn_letter : (s : Symbol) → begins_with_letter (drawn s) ≡ false
 drawn_letter s = elim s as (λ t. begins_with_letter (drawn t) ≡ false) [ symbols.Plus ↦ refl | _ ↦ refl ]
 
 pub letter_name : {bytes : List ℕ} {k : TokenKind} → Spells bytes k → begins_with_letter bytes ≡ true → is_name bytes ≡ true
-letter_name (word w) l = written_name w
+letter_name (word w) l = is_name_written w
 letter_name (name bytes h r) l = h
 letter_name (number [] h) l = cc
-letter_name (number (b ∷ bytes) h) l = absurd (letter_or_digit b l (and_parts (is_digit b) (list_all is_digit bytes) h).0)
+letter_name (number (b ∷ bytes) h) l = absurd (letter_not_digit b l (and_parts (is_digit b) (list_all is_digit bytes) h).0)
 letter_name (symbol s) l = let clash : true ≡ false = sym l ∙ drawn_letter s in cc
 
 -- ---- the longest token at the front

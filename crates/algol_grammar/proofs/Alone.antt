@@ -12,7 +12,7 @@ use Rattle.algol_tree.specs.Refused.{Programs}
 use Rattle.algol_tree.specs.Due.{Value, declared, list, whole_program, Make, value_put, Due, make, word, symbol, statement, stmts_more, declarations, program, takes, refuses, plain, nests, either}
 use Rattle.algol_tree.specs.DueStmt.{programmed, stmt_added}
 use Rattle.algol_tree.specs.Reading.{Count, outside, full, limit_counted, Judged, limit_broken, broken_at, ReadingStep, goes, over, stops, unless, stepped, step, to, cut_off, read_on, read_end, judged, unjudged, nowhere, reading, read}
-use Rattle.algol_expr.proofs.Reading.{joined, step-append}
+use Rattle.algol_expr.proofs.Reading.{joined, step_append}
 use Rattle.algol_expr.proofs.Steps.{strict, judged_strict, unless_goes, unless_over, goes_is}
 use Rattle.algol_grammar.proofs.Feed.{step_any}
 use Rattle.algol_grammar.proofs.Outset.{program_reads}
@@ -48,11 +48,11 @@ module _ (m : Make) (j : Judged) (spot : Spot) (k : TokenKind) where
   joined_goes (stops place code) n ds us e = cc
 
   never_over : (es : List Due) (c n : Count) (vs us : List Value) → step j (es ++ bottom m) spot k c vs ≡ over n us → ⊥
-  never_over es c n vs us e = joined_over (step j es spot k c vs) n us (sym (step-append j es (bottom m) spot k c vs) ∙ e)
+  never_over es c n vs us e = joined_over (step j es spot k c vs) n us (sym (step_append j es (bottom m) spot k c vs) ∙ e)
 
   goes_to : (es : List Due) (c n : Count) (vs us : List Value) (ds : List Due) → step j (es ++ bottom m) spot k c vs ≡ goes n ds us →
       ((fs : List Due) × (ds ≡ fs ++ bottom m)) ⊎ (ds ≡ make m ∷ [])
-  goes_to es c n vs us ds e = joined_goes (step j es spot k c vs) n ds us (sym (step-append j es (bottom m) spot k c vs) ∙ e)
+  goes_to es c n vs us ds e = joined_goes (step j es spot k c vs) n ds us (sym (step_append j es (bottom m) spot k c vs) ∙ e)
 
 -- ---- a whole program is read as far, whatever follows
 

@@ -32,7 +32,7 @@ use Rattle.algol_expr.proofs.Turns.{takes_step, opens_step, label_step, makes_st
 use Rattle.algol_expr.proofs.Complete.{event_read}
 use Rattle.algol_grammar.proofs.Optional.{NotFirst, left_out, gone_on}
 use Rattle.algol_grammar.proofs.Headings.{named_read, names_read, names_by_first, files_read, heading_on, heading_with, no_spec}
-use Rattle.algol_grammar.proofs.Lists.{whole_read, wholes_read, actuals_read, items_read, task_read, phrases_on, segments_on, behind-decls}
+use Rattle.algol_grammar.proofs.Lists.{whole_read, wholes_read, actuals_read, items_read, task_read, phrases_on, segments_on, behind_decls}
 use Rattle.algol_grammar.proofs.Begins.{act_turn, Begins, BeginsAt, begins_at, IsOwn, nothing_opened, level_opened, stmt_begins, begins_declaration, no_declaration, no_specification, specs_no_value}
 
 -- What may stand after a statement, where b says that it ends in an IF without an ELSE.
@@ -125,21 +125,21 @@ abbrev pub stmts_and : PStmts → PStmts → PStmts
 stmts_and no_stmts ss = ss
 stmts_and (stmts s ss) ts = stmts s (stmts_and ss ts)
 
-pub stmts-behind : (acc : PStmts) (s : PStmt) (ss : PStmts) → stmts_and (stmt_behind acc s) ss ≡ stmts_and acc (stmts s ss)
-stmts-behind no_stmts s ss = refl
-stmts-behind (stmts x acc) s ss = ap (stmts x) (stmts-behind acc s ss)
+pub stmts_behind : (acc : PStmts) (s : PStmt) (ss : PStmts) → stmts_and (stmt_behind acc s) ss ≡ stmts_and acc (stmts s ss)
+stmts_behind no_stmts s ss = refl
+stmts_behind (stmts x acc) s ss = ap (stmts x) (stmts_behind acc s ss)
 
-pub behind-stmts : (acc : PStmts) (s : PStmt) → stmt_behind acc s ≡ stmts_and acc (stmts s no_stmts)
-behind-stmts no_stmts s = refl
-behind-stmts (stmts x acc) s = ap (stmts x) (behind-stmts acc s)
+pub behind_stmts : (acc : PStmts) (s : PStmt) → stmt_behind acc s ≡ stmts_and acc (stmts s no_stmts)
+behind_stmts no_stmts s = refl
+behind_stmts (stmts x acc) s = ap (stmts x) (behind_stmts acc s)
 
-pub decls_and-assoc : (a b c : PDecls) → decls_and (decls_and a b) c ≡ decls_and a (decls_and b c)
-decls_and-assoc no_decls b c = refl
-decls_and-assoc (decls x a) b c = ap (decls x) (decls_and-assoc a b c)
+pub decls_and_assoc : (a b c : PDecls) → decls_and (decls_and a b) c ≡ decls_and a (decls_and b c)
+decls_and_assoc no_decls b c = refl
+decls_and_assoc (decls x a) b c = ap (decls x) (decls_and_assoc a b c)
 
-pub decls_and-none : (acc : PDecls) → decls_and acc no_decls ≡ acc
-decls_and-none no_decls = refl
-decls_and-none (decls x acc) = ap (decls x) (decls_and-none acc)
+pub decls_and_none : (acc : PDecls) → decls_and acc no_decls ≡ acc
+decls_and_none no_decls = refl
+decls_and_none (decls x acc) = ap (decls x) (decls_and_none acc)
 
 -- no statement begins as a declaration does
 stmt_first : (free d : ℕ) (from : List Token) (s : PStmt) (rest : List Token) → IsStmt free d from s rest → NotFirst begins_declaration rest → NotFirst begins_declaration from
@@ -365,13 +365,13 @@ mutual
       ∙ make_step free (u ∷ rest) stmt_added _ _
       ∙ left_out free (stmts_more d) (is_symbol symbols.Semicolon) _ (λ spot k. refl) refl (u ∷ rest) (ap (is_symbol symbols.Semicolon) e) _ _
       ∙ word_step free u rest reserved.End due _ e
-      ∙ ap (λ ss. read free rest due (list ss ∷ vs)) (behind-stmts acc s)
+      ∙ ap (λ ss. read free rest due (list ss ∷ vs)) (behind_stmts acc s)
   stmts_read free _ from _ u rest (grammar.semicolon t d s ss _ mid _ x c y) e acc due vs =
       stmt_read free d from s (t ∷ mid) x (semi t mid c) _ _
       ∙ make_step free (t ∷ mid) stmt_added _ _
       ∙ gone_on free (stmts_more d) (is_symbol symbols.Semicolon) _ skips (λ spot k. refl) t mid (symbol_is t symbols.Semicolon c) _ _
       ∙ stmts_read free d mid ss u rest y e (stmt_behind acc s) due vs
-      ∙ ap (λ ss. read free rest due (list ss ∷ vs)) (stmts-behind acc s ss)
+      ∙ ap (λ ss. read free rest due (list ss ∷ vs)) (stmts_behind acc s ss)
 
   -- a declaration and its semicolon
   decl_read : (free d : ℕ) (from : List Token) (ds : PDecls) (u : Token) (mid : List Token) → IsDecl free d from ds (u ∷ mid) → IsSymbol symbols.Semicolon u →
@@ -383,31 +383,31 @@ mutual
       (ap (is_symbol symbols.Comma) s) _ _
       ∙ make_step free (u ∷ mid) _ _ _
       ∙ symbol_step free u mid symbols.Semicolon _ _ s
-      ∙ ap (λ ds. read free mid (declarations d ∷ due) (declared ds ∷ vs)) (behind-decls acc (trees.simple kind ns))
+      ∙ ap (λ ds. read free mid (declarations d ∷ due) (declared ds ∷ vs)) (behind_decls acc (trees.simple kind ns))
   decl_read free _ _ _ u mid (grammar.printers t ns d from _ w x) s acc due vs =
       word_starts free d due t from _ _ w refl _
       ∙ files_read free from ns (u ∷ mid) x (ap (is_symbol symbols.Comma) s) (ap (is_symbol symbols.OpenRound) s) _ _
       ∙ make_step free (u ∷ mid) _ _ _
       ∙ symbol_step free u mid symbols.Semicolon _ _ s
-      ∙ ap (λ ds. read free mid (declarations d ∷ due) (declared ds ∷ vs)) (behind-decls acc (trees.files ns))
+      ∙ ap (λ ds. read free mid (declarations d ∷ due) (declared ds ∷ vs)) (behind_decls acc (trees.files ns))
   decl_read free _ _ _ u mid (grammar.happenings t ns d from _ w x) s acc due vs =
       word_starts free d due t from _ _ w refl _
       ∙ names_read free from ns (u ∷ mid) x (ap (is_symbol symbols.Comma) s) _ _
       ∙ make_step free (u ∷ mid) _ _ _
       ∙ symbol_step free u mid symbols.Semicolon _ _ s
-      ∙ ap (λ ds. read free mid (declarations d ∷ due) (declared ds ∷ vs)) (behind-decls acc (trees.events ns))
+      ∙ ap (λ ds. read free mid (declarations d ∷ due) (declared ds ∷ vs)) (behind_decls acc (trees.events ns))
   decl_read free _ _ _ u mid (grammar.workers t ns d from _ w x) s acc due vs =
       word_starts free d due t from _ _ w refl _
       ∙ names_read free from ns (u ∷ mid) x (ap (is_symbol symbols.Comma) s) _ _
       ∙ make_step free (u ∷ mid) _ _ _
       ∙ symbol_step free u mid symbols.Semicolon _ _ s
-      ∙ ap (λ ds. read free mid (declarations d ∷ due) (declared ds ∷ vs)) (behind-decls acc (trees.tasks ns))
+      ∙ ap (λ ds. read free mid (declarations d ∷ due) (declared ds ∷ vs)) (behind_decls acc (trees.tasks ns))
   decl_read free _ _ _ u mid (grammar.places t ns d from _ w x) s acc due vs =
       word_starts free d due t from _ _ w refl _
       ∙ names_read free from ns (u ∷ mid) x (ap (is_symbol symbols.Comma) s) _ _
       ∙ make_step free (u ∷ mid) _ _ _
       ∙ symbol_step free u mid symbols.Semicolon _ _ s
-      ∙ ap (λ ds. read free mid (declarations d ∷ due) (declared ds ∷ vs)) (behind-decls acc (trees.labels ns))
+      ∙ ap (λ ds. read free mid (declarations d ∷ due) (declared ds ∷ vs)) (behind_decls acc (trees.labels ns))
   decl_read free _ from _ u mid (grammar.rows t kind ds d _ after _ x w y) s acc due vs =
       rows_start free d due from kind t after x w _
       ∙ segments_on free (elements_of kind) after ds (u ∷ mid) y (ap (is_symbol symbols.Comma) s) acc _ vs
@@ -417,21 +417,21 @@ mutual
       ∙ takes_step free t (u ∷ mid) (procedure_body d) _ _ _ (ap (turn_procedure_body d t.spot) w)
       ∙ make_step free (u ∷ mid) announced _ _
       ∙ symbol_step free u mid symbols.Semicolon _ _ s
-      ∙ ap (λ ds. read free mid (declarations d ∷ due) (declared ds ∷ vs)) (behind-decls acc (trees.forward h))
+      ∙ ap (λ ds. read free mid (declarations d ∷ due) (declared ds ∷ vs)) (behind_decls acc (trees.forward h))
   decl_read free _ from _ u mid (grammar.with_body h s d _ body _ x o y) c acc due vs =
       heading_read free d due from h body x (no_specs body (stmt_first free (d + 1) body s (u ∷ mid) y (ap begins_declaration c))) _
       ∙ body_of free d (declarations d ∷ due) s u mid c h acc vs body y o (stmt_read free (d + 1) body s (u ∷ mid) y (semi u mid c))
-      ∙ ap (λ ds. read free mid (declarations d ∷ due) (declared ds ∷ vs)) (behind-decls acc (trees.procedure h s))
+      ∙ ap (λ ds. read free mid (declarations d ∷ due) (declared ds ∷ vs)) (behind_decls acc (trees.procedure h s))
 
   -- declarations after others
   pub decls_read : (free d : ℕ) (from : List Token) (ds : PDecls) (rest : List Token) → IsDecls free d from ds rest → NotFirst begins_declaration rest →
       (acc : PDecls) (due : List Due) (vs : List Value) → read free from (declarations d ∷ due) (declared acc ∷ vs) ≡ read free rest due (declared (decls_and acc ds) ∷ vs)
   decls_read free _ _ _ rest (grammar.no_more d _) end acc due vs =
-      none_declared free d rest end due _ ∙ ap (λ ds. read free rest due (declared ds ∷ vs)) (sym (decls_and-none acc))
+      none_declared free d rest end due _ ∙ ap (λ ds. read free rest due (declared ds ∷ vs)) (sym (decls_and_none acc))
   decls_read free _ from _ rest (grammar.another t d ds es _ mid _ x c y) end acc due vs =
       decl_read free d from ds t mid x c acc due vs
       ∙ decls_read free d mid es rest y end (decls_and acc ds) due vs
-      ∙ ap (λ ds. read free rest due (declared ds ∷ vs)) (decls_and-assoc acc ds es)
+      ∙ ap (λ ds. read free rest due (declared ds ∷ vs)) (decls_and_assoc acc ds es)
 
   -- a block's body and its END
   body_read : (free d : ℕ) (spot : Spot) (from : List Token) (b : PBody) (u : Token) (rest : List Token) → IsBody free d spot from b (u ∷ rest) → IsWord reserved.End u →

@@ -14,7 +14,8 @@ use Rattle.algol_tree.specs.DueStmt.{turn_behind_start}
 use Rattle.algol_tree.specs.Reading.{reading_turn, Count, outside, inside, full, limit_counted, Judged, limit_broken, broken_at, goes, stops, unless, stepped, step, to, refused, read_on, judged, unjudged, reading}
 use Rattle.algol_expr.proofs.Inner.{IsInner, Inners}
 use Rattle.algol_expr.proofs.Steps.{strict, judged_strict}
-use Rattle.algol_grammar.proofs.Labels.{all_fresh, both, is_fresh, Behind, fresh, a_name, is_own, Calm, takes_on, makes_on, skips_on, closes_on, refuses_on, turn_calm, AtName, is_label, is_none, is_alone, name_turn, step_behind}
+use Rattle.b67_list.proofs.Truths.{and_both, and_false}
+use Rattle.algol_grammar.proofs.Labels.{all_fresh, is_fresh, Behind, fresh, a_name, is_own, Calm, takes_on, makes_on, skips_on, closes_on, refuses_on, turn_calm, AtName, is_label, is_none, is_alone, name_turn, step_behind}
 use Rattle.algol_grammar.proofs.Places.{Place, out, within, count, stack, Placed}
 use Rattle.algol_grammar.proofs.Sound.{place_next}
 use Rattle.algol_grammar.proofs.Feed.{Fed, nothing_fed, fed, fed_placed, fed_any, fed_back, step_any, RefusedAt}
@@ -39,10 +40,6 @@ unjudged_at free t more e =
 
 -- a limit that the token itself has to keep
 
-never : (b : Bool) → (b && false) ≡ false
-never true = refl
-never false = refl
-
 own_place : (l : Limit) (here : Spot) → is_own l ≡ true → broken_at l here ≡ here
 own_place plain here e = refl
 own_place (nests d) here e = refl
@@ -51,7 +48,7 @@ own_place (begun l) here e = own_place l here e
 
 own_lifted : (l : Limit) → is_own l ≡ true → limit_broken l lifted ≡ false
 own_lifted plain e = refl
-own_lifted (nests d) e = never (nat_le MOST_NESTING d)
+own_lifted (nests d) e = and_false (nat_le MOST_NESTING d)
 own_lifted (label d spot) e = cc
 own_lifted (begun l) e = own_lifted l e
 
@@ -80,7 +77,7 @@ record Before (due : List Due) (here : Spot) (k : TokenKind) (c : Count) (vs : L
 fresh_own : (due : List Due) (here : Spot) (k : TokenKind) (c : Count) (vs : List Value) (spot : Spot) → all_fresh due ≡ true →
     step strict due here k c vs ≡ stops spot codes.TooDeep → Own due here k c vs spot
 fresh_own [] here k c vs spot f e = cc
-fresh_own (s ∷ due) here k c vs spot f e = let p = both (is_fresh s) (all_fresh due) f in
+fresh_own (s ∷ due) here k c vs spot f e = let p = and_both (is_fresh s) (all_fresh due) f in
     by_turn (reading_turn s here k) refl (turn_calm s here k p.0) e (λ c vs e. fresh_own due here k c vs spot p.1 e)
   where
     by_turn : (x : Turn) → reading_turn s here k ≡ x → Calm here x → stepped strict c here x due vs (step strict due here k) ≡ stops spot codes.TooDeep →
@@ -91,7 +88,7 @@ fresh_own (s ∷ due) here k c vs spot f e = let p = both (is_fresh s) (all_fres
       ds = es ++ due;
       us = vs;
       so = ap (λ x. stepped lifted c here x due vs (step lifted due here k)) is
-          ∙ ap (λ a. unless a here (unless (limit_broken l lifted) (broken_at l here) (goes (limit_counted l c) (es ++ due) vs))) (never (full c))
+          ∙ ap (λ a. unless a here (unless (limit_broken l lifted) (broken_at l here) (goes (limit_counted l c) (es ++ due) vs))) (and_false (full c))
           ∙ ap (λ a. unless a (broken_at l here) (goes (limit_counted l c) (es ++ due) vs)) (own_lifted l o);
     }
     by_turn _ is (makes_on m) e again = let r = again c (m vs) e in
@@ -121,7 +118,7 @@ name_broken name d due here k vs spot f e = by_turn (turn_behind_start name d k)
         ds = es ++ due;
         us = vs;
         so = ap (λ x. stepped unjudged outside here x due vs (step unjudged due here k)) is
-            ∙ ap (λ a. unless a name.spot (goes outside (es ++ due) vs)) (never (nat_le MOST_NESTING d));
+            ∙ ap (λ a. unless a name.spot (goes outside (es ++ due) vs)) (and_false (nat_le MOST_NESTING d));
         stays = ap (λ x. stepped lifted outside here x due vs (step lifted due here k)) is ∙ e;
       },
     )

@@ -41,7 +41,7 @@ step_any j (s ∷ due) spot k c vs n ds us e = by_turn (reading_turn s spot k) e
     by_turn closes e again = again outside vs e
     by_turn refuses e again = cc
 
-unless_not : (a b : Bool) (here at spot : Spot) (n : Count) (ds : List Due) (us : List Value) → unless a here (unless b at (goes n ds us)) ≡ stops spot codes.Unexpected → ⊥
+pub unless_not : (a b : Bool) (here at spot : Spot) (n : Count) (ds : List Due) (us : List Value) → unless a here (unless b at (goes n ds us)) ≡ stops spot codes.Unexpected → ⊥
 unless_not true b here at spot n ds us e = cc
 unless_not false true here at spot n ds us e = cc
 unless_not false false here at spot n ds us e = cc

@@ -28,9 +28,6 @@ named_read free t n ts k due vs =
     ∙ make_step free ts _ due vs
     ∙ ap (λ spot. read free ts due (name_is (record { name = n.name; spot = spot }) ∷ vs)) k.place
 
-is_comma : TokenKind → Bool
-is_comma = is_symbol symbols.Comma
-
 -- names after others
 pub names_on : (free : ℕ) (from : List Token) (ns : List Named) (rest : List Token) → IsNames from ns rest → NotFirst (is_symbol symbols.Comma) rest →
     (acc : List Named) (due : List Due) (vs : List Value) →

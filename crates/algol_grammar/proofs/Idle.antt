@@ -23,6 +23,7 @@ use Rattle.algol_expr.proofs.Ends.{operator_end}
 use Rattle.algol_expr.proofs.Steps.{strict}
 use Rattle.algol_expr.proofs.Sound.{part_takes}
 use Rattle.algol_grammar.proofs.SoundDeclarations.{StartsAt, starts_at}
+use Rattle.algol_grammar.proofs.Feed.{unless_not}
 
 -- a turn x at a token, and y at the end of the text
 abbrev IsIdle : Turn → Turn → Type 0
@@ -185,15 +186,10 @@ idle (typed kind d) spot k = typed_idle kind d spot k
 idle (procedure_body d) spot k = body_idle d spot k
 idle program spot k = either_idle (is_word reserved.Begin k) _ _ refuses refuses refused_
 
-never_over : (a b : Bool) (here at : Spot) (n c : Count) (ds : List Due) (us ws : List Value) → unless a here (unless b at (goes n ds us)) ≡ over c ws → ⊥
+pub never_over : (a b : Bool) (here at : Spot) (n c : Count) (ds : List Due) (us ws : List Value) → unless a here (unless b at (goes n ds us)) ≡ over c ws → ⊥
 never_over true b here at n c ds us ws e = cc
 never_over false true here at n c ds us ws e = cc
 never_over false false here at n c ds us ws e = cc
-
-takes_not : (a b : Bool) (here at spot : Spot) (n : Count) (ds : List Due) (us : List Value) → unless a here (unless b at (goes n ds us)) ≡ stops spot codes.Unexpected → ⊥
-takes_not true b here at spot n ds us e = cc
-takes_not false true here at spot n ds us e = cc
-takes_not false false here at spot n ds us e = cc
 
 -- so the text does not end there
 pub cut_short : (due : List Due) (here : Spot) (k : TokenKind) (c : Count) (vs : List Value) (spot : Spot) → step strict due here k c vs ≡ stops spot codes.Unexpected →
@@ -208,7 +204,7 @@ cut_short (s ∷ due) here k c vs spot e n ws o = by_turn (reading_turn s here k
     by_turn : (x y : Turn) → IsIdle x y → stepped strict c here x due vs (step strict due here k) ≡ stops spot codes.Unexpected →
         stepped unjudged c nowhere y due vs (step unjudged due nowhere kinds.End) ≡ over n ws →
         ((c : Count) (vs : List Value) → step strict due here k c vs ≡ stops spot codes.Unexpected → step unjudged due nowhere kinds.End c vs ≡ over n ws → ⊥) → ⊥
-    by_turn (takes l ds) y i e o again = takes_not (full c && true) (limit_broken l strict) here (broken_at l here) spot (limit_counted l c) (ds ++ due) vs e
+    by_turn (takes l ds) y i e o again = unless_not (full c && true) (limit_broken l strict) here (broken_at l here) spot (limit_counted l c) (ds ++ due) vs e
     by_turn (makes m) y i e o again =
         again c (m vs) e (subst (λ y. stepped unjudged c nowhere y due vs (step unjudged due nowhere kinds.End) ≡ over n ws) i o)
     by_turn skips y i e o again = again c vs e (subst (λ y. stepped unjudged c nowhere y due vs (step unjudged due nowhere kinds.End) ≡ over n ws) i o)

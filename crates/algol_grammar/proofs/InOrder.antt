@@ -114,12 +114,12 @@ segments_picks (grammar.comma kind u v w ns ps ds from mid after rest x i y j k 
 
 -- statements and declarations
 
-spots-decls_and : (ds es : PDecls) → spots_of_decls (decls_and ds es) ≡ spots_of_decls ds ++ spots_of_decls es
-spots-decls_and no_decls es = refl
-spots-decls_and (decls d ds) es = ap (λ spots. spots_of_decl d ++ spots) (spots-decls_and ds es) ∙ sym (append_assoc (spots_of_decl d) (spots_of_decls ds) (spots_of_decls es))
+spots_decls_and : (ds es : PDecls) → spots_of_decls (decls_and ds es) ≡ spots_of_decls ds ++ spots_of_decls es
+spots_decls_and no_decls es = refl
+spots_decls_and (decls d ds) es = ap (λ spots. spots_of_decl d ++ spots) (spots_decls_and ds es) ∙ sym (append_assoc (spots_of_decl d) (spots_of_decls ds) (spots_of_decls es))
 
 both_decls : (ds es : PDecls) {from rest : List Token} → Picks from (spots_of_decls ds ++ spots_of_decls es) rest → Picks from (spots_of_decls (decls_and ds es)) rest
-both_decls ds es {from} {rest} p = subst (λ (spots : List Spot). Picks from spots rest) (sym (spots-decls_and ds es)) p
+both_decls ds es {from} {rest} p = subst (λ (spots : List Spot). Picks from spots rest) (sym (spots_decls_and ds es)) p
 
 at_begin : (t : Token) (spot : Spot) {from : List Token} {spots : List Spot} {rest : List Token} → t.spot ≡ spot → Picks from spots rest → Picks (t ∷ from) (spot ∷ spots) rest
 at_begin t spot {from} {spots} {rest} e p = subst (λ (s : Spot). Picks (t ∷ from) (s ∷ spots) rest) e (picked t p)

@@ -19,6 +19,7 @@ use Rattle.algol_tree.specs.DueStmt.{with_body, turn_start, turn_behind_start, t
 use Rattle.algol_tree.specs.Reading.{reading_turn, Count, outside, full, limit_counted, Judged, limit_broken, broken_at, goes, unless, stepped, step}
 use Rattle.algol_expr.proofs.Inner.{IsInner, Inners, Stays, inner_stays}
 use Rattle.algol_expr.proofs.Steps.{unless_goes, goes_is}
+use Rattle.b67_list.proofs.Truths.{and_both}
 
 -- no name stands before it
 abbrev pub is_fresh : Due → Bool
@@ -29,14 +30,9 @@ abbrev pub all_fresh : List Due → Bool
 all_fresh [] = true
 all_fresh (s ∷ due) = is_fresh s && all_fresh due
 
--- both of two tests
-pub both : (a b : Bool) → (a && b) ≡ true → (a ≡ true) × (b ≡ true)
-both true b e = (refl, e)
-both false b e = cc
-
 fresh_append : (a b : List Due) → all_fresh a ≡ true → all_fresh b ≡ true → all_fresh (a ++ b) ≡ true
 fresh_append [] b x y = y
-fresh_append (s ∷ a) b x y = let p = both (is_fresh s) (all_fresh a) x in rw (p.0, fresh_append a b p.1 y) refl
+fresh_append (s ∷ a) b x y = let p = and_both (is_fresh s) (all_fresh a) x in rw (p.0, fresh_append a b p.1 y) refl
 
 -- what is due after a token at that spot
 pub data Behind (spot : Spot) : List Due → Type 0 where
@@ -68,7 +64,7 @@ is_calm (takes l ds) = is_own l && all_fresh ds
 is_calm x = true
 
 calm : (spot : Spot) (x : Turn) → is_calm x ≡ true → Calm spot x
-calm spot (takes l ds) e = let p = both (is_own l) (all_fresh ds) e in takes_on l ds p.0 (fresh ds p.1)
+calm spot (takes l ds) e = let p = and_both (is_own l) (all_fresh ds) e in takes_on l ds p.0 (fresh ds p.1)
 calm spot (makes m) e = makes_on m
 calm spot skips e = skips_on
 calm spot closes e = closes_on
@@ -101,7 +97,7 @@ optional_calm (Some a) f x p q = p a
 optional_calm None f x p q = q
 
 followed_calm : (x : Turn) (more : List Due) → is_calm x ≡ true → all_fresh more ≡ true → is_calm (followed x more) ≡ true
-followed_calm (takes l ds) more x y = let p = both (is_own l) (all_fresh ds) x in rw (p.0, fresh_append ds more p.1 y) refl
+followed_calm (takes l ds) more x y = let p = and_both (is_own l) (all_fresh ds) x in rw (p.0, fresh_append ds more p.1 y) refl
 followed_calm x more y z = refl
 
 begins_calm : (x : Turn) → is_calm x ≡ true → is_calm (begins x) ≡ true
@@ -255,7 +251,7 @@ taken_behind j c n spot l es due ds vs us b f e =
 fresh_goes : (j : Judged) (due : List Due) (spot : Spot) (k : TokenKind) (c : Count) (vs : List Value) (n : Count) (ds : List Due) (us : List Value) → all_fresh due ≡ true →
     step j due spot k c vs ≡ goes n ds us → Behind spot ds
 fresh_goes j [] spot k c vs n ds us f e = cc
-fresh_goes j (s ∷ due) spot k c vs n ds us f e = let p = both (is_fresh s) (all_fresh due) f in
+fresh_goes j (s ∷ due) spot k c vs n ds us f e = let p = and_both (is_fresh s) (all_fresh due) f in
     by_turn (reading_turn s spot k) (turn_calm s spot k p.0) p.1 e (λ c vs e. fresh_goes j due spot k c vs n ds us p.1 e)
   where
     by_turn : (x : Turn) → Calm spot x → all_fresh due ≡ true → stepped j c spot x due vs (step j due spot k) ≡ goes n ds us →

@@ -11,6 +11,7 @@ use Rattle.algol_tree.specs.Reading.{reading_turn, Count, outside, full, limit_c
 use Rattle.algol_expr.proofs.Steps.{unless_goes}
 use Rattle.algol_grammar.proofs.Sound.{program_sound}
 use Rattle.algol_grammar.proofs.Outset.{program_reads}
+use Rattle.algol_grammar.proofs.Idle.{never_over}
 
 falls : (a b c : Bool) → (c ≡ true → b ≡ true) → (a && b) ≡ false → (a && c) ≡ false
 falls true b true h e = let no : true ≡ false = sym (h refl) ∙ e in cc
@@ -42,11 +43,6 @@ module _ (j k : Judged) (here : k.here ≡ true → j.here ≡ true) (before : k
       by_turn closes e again = again outside vs e
       by_turn refuses e again = cc
 
-unless_twice : (a b : Bool) (here at : Spot) (n c : Count) (ds : List Due) (us ws : List Value) → unless a here (unless b at (goes n ds us)) ≡ over c ws → ⊥
-unless_twice true b here at n c ds us ws e = cc
-unless_twice false true here at n c ds us ws e = cc
-unless_twice false false here at n c ds us ws e = cc
-
 -- where reading ends, limits do not count
 over_any : (j k : Judged) (due : List Due) (spot : Spot) (kind : TokenKind) (c : Count) (vs : List Value) (n : Count) (us : List Value) →
     step j due spot kind c vs ≡ over n us → step k due spot kind c vs ≡ over n us
@@ -56,7 +52,7 @@ over_any j k (s ∷ due) spot kind c vs n us e = by_turn (reading_turn s spot ki
     by_turn : (x : Turn) → stepped j c spot x due vs (step j due spot kind) ≡ over n us →
         ((c : Count) (vs : List Value) → step j due spot kind c vs ≡ over n us → step k due spot kind c vs ≡ over n us) →
         stepped k c spot x due vs (step k due spot kind) ≡ over n us
-    by_turn (takes l es) e again = absurd (unless_twice (full c && j.here) (limit_broken l j) spot (broken_at l spot) (limit_counted l c) n (es ++ due) vs us e)
+    by_turn (takes l es) e again = absurd (never_over (full c && j.here) (limit_broken l j) spot (broken_at l spot) (limit_counted l c) n (es ++ due) vs us e)
     by_turn (makes m) e again = again c (m vs) e
     by_turn skips e again = again c vs e
     by_turn closes e again = again outside vs e

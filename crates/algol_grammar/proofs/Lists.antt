@@ -19,7 +19,7 @@ use Rattle.algol_tree.specs.DueStmt.{decl_behind, wholes_in, pair_in, pair_added
 use Rattle.algol_tree.specs.Reading.{read}
 use Rattle.algol_expr.proofs.Reading.{Leads}
 use Rattle.algol_expr.proofs.Turns.{read_nothing, takes_step, make_step, symbol_step, symbol_is}
-use Rattle.algol_expr.proofs.Complete.{part_read, all_of-behind, behind-all_of}
+use Rattle.algol_expr.proofs.Complete.{part_read, all_of_behind, behind_all_of}
 use Rattle.algol_expr.proofs.Lift.{whole_found}
 use Rattle.algol_grammar.proofs.Optional.{NotFirst, left_out, put_out, gone_on}
 use Rattle.algol_grammar.proofs.Headings.{named_read, names_read, literal_read}
@@ -34,13 +34,13 @@ wholes_on free _ _ rest (grammar.one e from _ x) end comma acc due vs =
     whole_read free from e rest x end _ _
     ∙ make_step free rest list_made _ _
     ∙ left_out free wholes_more (is_symbol symbols.Comma) _ (λ spot k. refl) refl rest comma due _
-    ∙ ap (λ es. read free rest due (many es ∷ vs)) (behind-all_of acc e)
+    ∙ ap (λ es. read free rest due (many es ∷ vs)) (behind_all_of acc e)
 wholes_on free _ _ rest (grammar.comma t e es from after _ x c y) end comma acc due vs =
     whole_read free from e (t ∷ after) x (ap (part_ends expr) c) _ _
     ∙ make_step free (t ∷ after) list_made _ _
     ∙ gone_on free wholes_more (is_symbol symbols.Comma) _ skips (λ spot k. refl) t after (symbol_is t symbols.Comma c) due _
     ∙ wholes_on free after es rest y end comma (behind acc e) due vs
-    ∙ ap (λ es. read free rest due (many es ∷ vs)) (all_of-behind acc e es)
+    ∙ ap (λ es. read free rest due (many es ∷ vs)) (all_of_behind acc e es)
 
 pub wholes_read : (free : ℕ) (from : List Token) (es : PExprs) (rest : List Token) → IsWholes free from es rest → Ends expr rest → NotFirst (is_symbol symbols.Comma) rest →
     (due : List Due) (vs : List Value) → read free from (wholes_in ++ due) vs ≡ read free rest due (many es ∷ vs)
@@ -110,13 +110,13 @@ pairs_read free _ _ v rest (grammar.two t p q from after _ x k y) c due vs =
     ∙ pair_read free after q (v ∷ rest) y (ap (part_ends expr) c) (p ∷ []) _ vs
     ∙ symbol_step free v rest symbols.CloseSquare due _ c
 
-pub decls-behind : (acc : PDecls) (d : PDecl) (ds : PDecls) → decls_and (decl_behind acc d) ds ≡ decls_and acc (decls d ds)
-decls-behind no_decls d ds = refl
-decls-behind (decls x acc) d ds = ap (decls x) (decls-behind acc d ds)
+pub decls_behind : (acc : PDecls) (d : PDecl) (ds : PDecls) → decls_and (decl_behind acc d) ds ≡ decls_and acc (decls d ds)
+decls_behind no_decls d ds = refl
+decls_behind (decls x acc) d ds = ap (decls x) (decls_behind acc d ds)
 
-pub behind-decls : (acc : PDecls) (d : PDecl) → decl_behind acc d ≡ decls_and acc (decls d no_decls)
-behind-decls no_decls d = refl
-behind-decls (decls x acc) d = ap (decls x) (behind-decls acc d)
+pub behind_decls : (acc : PDecls) (d : PDecl) → decl_behind acc d ≡ decls_and acc (decls d no_decls)
+behind_decls no_decls d = refl
+behind_decls (decls x acc) d = ap (decls x) (behind_decls acc d)
 
 -- segments after other declarations
 pub segments_on : (free : ℕ) (kind : Kind) (from : List Token) (ds : PDecls) (rest : List Token) → IsSegments free kind from ds rest → NotFirst (is_symbol symbols.Comma) rest →
@@ -128,7 +128,7 @@ segments_on free _ from _ rest (grammar.last kind u v ns ps _ mid _ x a y b) end
     ∙ pairs_read free mid ps v rest y b _ _
     ∙ make_step free rest (rows_declared kind) _ _
     ∙ left_out free (segments_more kind) (is_symbol symbols.Comma) _ (λ spot k. refl) refl rest end due _
-    ∙ ap (λ ds. read free rest due (declared ds ∷ vs)) (behind-decls acc (trees.arrays kind ns ps))
+    ∙ ap (λ ds. read free rest due (declared ds ∷ vs)) (behind_decls acc (trees.arrays kind ns ps))
 segments_on free _ from _ rest (grammar.comma kind u v w ns ps ds _ mid after _ x a y b c z) end acc due vs =
     names_read free from ns (u ∷ mid) x (ap (is_symbol symbols.Comma) a) _ _
     ∙ symbol_step free u mid symbols.OpenSquare _ _ a
@@ -137,4 +137,4 @@ segments_on free _ from _ rest (grammar.comma kind u v w ns ps ds _ mid after _ 
     ∙ make_step free (w ∷ after) (rows_declared kind) _ _
     ∙ gone_on free (segments_more kind) (is_symbol symbols.Comma) _ skips (λ spot k. refl) w after (symbol_is w symbols.Comma c) due _
     ∙ segments_on free kind after ds rest z end (decl_behind acc (trees.arrays kind ns ps)) due vs
-    ∙ ap (λ ds. read free rest due (declared ds ∷ vs)) (decls-behind acc (trees.arrays kind ns ps) ds)
+    ∙ ap (λ ds. read free rest due (declared ds ∷ vs)) (decls_behind acc (trees.arrays kind ns ps) ds)

@@ -1,6 +1,5 @@
 -- Places that are picked from tokens in their order, and those of an expression.
-use Rattle.std.proofs.Common.{◌≡◌, ℕ, true, List, [], ◌∷◌, ◌++◌, map, subst, arith}
-use Rattle.std.proofs.lemmas.Bool.Decides.{nat_tests}
+use Rattle.std.proofs.Common.{◌≡◌, ℕ, true, List, [], ◌∷◌, ◌++◌, map, subst}
 use Rattle.algol_tree.specs.declared.level.Level.{Level}
 use Rattle.algol_tree.specs.declared.token.Spot.{Spot}
 use Rattle.algol_tree.specs.declared.token.Token.{Token}
@@ -13,6 +12,7 @@ use Rattle.algol_tree.specs.Tokens.{IsName}
 use Rattle.algol_tree.specs.Operators.{Part}
 use Rattle.algol_tree.specs.Expressions as grammar
 use Rattle.algol_tree.specs.Expressions.{IsEvent, IsEvents, IsExprPart, IsMore, IsExprs, IsWholeExpression}
+use Rattle.algol_tree.proofs.Spots.{before_on}
 
 -- Of the tokens from `from` up to `rest` these places are picked, in their order.
 pub data Picks : List Token → List Spot → List Token → Type 0 where
@@ -38,9 +38,6 @@ named {t} {n} {from} {spots} {rest} k p = subst (λ (spot : Spot). Picks (t ∷ 
 
 abbrev pub places : List Token → List Spot
 places tokens = map (λ (t : Token). t.spot) tokens
-
-before_on : (a b c : Spot) → is_before a b ≡ true → is_before b c ≡ true → is_before a c ≡ true
-before_on a b c p q = grind (arith, nat_tests)
 
 ahead_on : (a b : Spot) (spots : List Spot) → is_before a b ≡ true → IsAhead b spots → IsAhead a spots
 ahead_on a b [] p q = tt

@@ -12,7 +12,7 @@ use Rattle.algol_tree.specs.Due.{Value, whole_program, Due, program, whole, whol
 use Rattle.algol_tree.specs.DueExpr.{turn_expr}
 use Rattle.algol_tree.specs.Operators.{expr}
 use Rattle.algol_tree.specs.Reading.{reading_turn, Count, outside, inside, full, Judged, ReadingStep, goes, over, stops, unless, stepped, step, to, read_on, read_end, judged, unjudged, nowhere, reading, read}
-use Rattle.algol_expr.proofs.Reading.{Takes, taken, refused_, joined, step-append}
+use Rattle.algol_expr.proofs.Reading.{Takes, taken, refused_, joined, step_append}
 use Rattle.algol_expr.proofs.Inner.{Inners}
 use Rattle.algol_expr.proofs.Steps.{unless_over, goes_is, inner_goes}
 use Rattle.algol_expr.proofs.Sound as inner
@@ -120,7 +120,7 @@ pub place_next : (j : Judged) (p : Place) (t : Token) (vs : List Value) (c : Cou
 place_next j (out due) t vs c ds us i e = out_next j due t vs c ds us i e
 place_next j (within n a b) t vs c ds us i e = within_by j n a b t vs c ds us i.0 i.1 (step j a t.spot t.kind outside vs) refl
     (ap (λ x. joined x (whole_ends ∷ b) (step j (whole_ends ∷ b) t.spot t.kind)) (sym (step_inside j n a t.spot t.kind vs i.0))
-    ∙ sym (step-append j a (whole_ends ∷ b) t.spot t.kind (inside n) vs) ∙ e)
+    ∙ sym (step_append j a (whole_ends ∷ b) t.spot t.kind (inside n) vs) ∙ e)
 
 -- where a token belongs to nothing that is due
 
@@ -186,7 +186,7 @@ place_over free (within n a b) from vs c ws i k e =
     let j = judged_first free from in
     within_over free from n a b vs c ws i.0 i.1 k (step j a (spot_first from) (kind_first from) outside vs) refl
     (ap (λ x. joined x (whole_ends ∷ b) (step j (whole_ends ∷ b) (spot_first from) (kind_first from))) (sym (step_inside j n a (spot_first from) (kind_first from) vs i.0))
-    ∙ sym (step-append j a (whole_ends ∷ b) (spot_first from) (kind_first from) (inside n) vs) ∙ e)
+    ∙ sym (step_append j a (whole_ends ∷ b) (spot_first from) (kind_first from) (inside n) vs) ∙ e)
 
 -- what is read is what is due
 pub sound : (free : ℕ) (ts : List Token) (p : Place) (vs ws : List Value) (rest : List Token) → Placed p → Fits free p ts → reading free ts (count p) (stack p) vs ≡ to rest ws →

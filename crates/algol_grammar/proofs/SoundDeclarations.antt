@@ -25,8 +25,8 @@ use Rattle.algol_tree.specs.Due as due_data
 use Rattle.algol_tree.specs.DueStmt.{names_declared, segment_in, announced, with_body, programmed, stmt_added, procedure_in, turn_start, turn_typed, turn_declaration, turn_declarations, turn_entered, turn_procedure_body}
 use Rattle.algol_expr.proofs.Turns.{word_from}
 use Rattle.algol_expr.proofs.Sound.{single, makes_it}
-use Rattle.algol_grammar.proofs.Complete.{decls_and-none, decls_and-assoc}
-use Rattle.algol_grammar.proofs.Lists.{behind-decls}
+use Rattle.algol_grammar.proofs.Complete.{decls_and_none, decls_and_assoc}
+use Rattle.algol_grammar.proofs.Lists.{behind_decls}
 use Rattle.algol_grammar.proofs.Meant.{Gives, gives, one_name, IsClosed, IsEnded, ended, IsDue, IsAll, nil, cons, in_two, Taken}
 use Rattle.algol_grammar.proofs.Given.{Then, given, regive, put_given, split}
 use Rattle.algol_grammar.proofs.SoundHeadings.{names_from, names_then, files_then}
@@ -45,7 +45,7 @@ by_names free P f from vs ws rest r acc below is = by_end r.a r.mid r.is ws rest
     by_end : (ns : List Named) (mid : List Token) → P from ns mid → (ws : List Value) (rest : List Token) →
         IsAll free (make (names_declared f) ∷ symbol symbols.Semicolon ∷ []) (names ns ∷ vs) mid ws rest → Gives (IsNamed P f) (λ ds. declared (decls_and acc ds)) from below ws rest
     by_end ns _ p _ _ (cons _ _ _ _ _ _ _ _ makes_it (cons _ _ _ _ _ _ _ _ (single u rest s) (nil _ _))) = put_given (decls (f ns) no_decls)
-        (ap (λ us. names_declared f (names ns ∷ us)) is ∙ ap (λ ds. declared ds ∷ below) (behind-decls acc (f ns))) (names_of u ns from rest p s)
+        (ap (λ us. names_declared f (names ns ∷ us)) is ∙ ap (λ ds. declared ds ∷ below) (behind_decls acc (f ns))) (names_of u ns from rest p s)
 
 module _ (free d : ℕ) (t : Token) (ts : List Token) where
   by_files : (ds : PDecls) (rest : List Token) → IsWord reserved.File t → IsNamed IsFiles trees.files ts ds rest → IsEnded free d (t ∷ ts) ds rest
@@ -121,7 +121,7 @@ module _ (free d : ℕ) (t : Token) (ts : List Token) (vs ws : List Value) (rest
   back_declaration k e x = by_type (type_of k) (ap type_of e) x
 
 pub no_declarations : (free d : ℕ) (vs : List Value) (from : List Token) → IsDue free (declarations d) vs from vs from
-no_declarations free d vs from = λ acc below is. put_given no_decls (is ∙ ap (λ ds. declared ds ∷ below) (sym (decls_and-none acc))) (grammar.no_more d from)
+no_declarations free d vs from = λ acc below is. put_given no_decls (is ∙ ap (λ ds. declared ds ∷ below) (sym (decls_and_none acc))) (grammar.no_more d from)
 
 pub back_declarations : (free d : ℕ) (t : Token) (ts : List Token) (vs ws : List Value) (rest : List Token) → Taken free (turn_declarations d t.kind) t ts vs ws rest →
     IsDue free (declarations d) vs (t ∷ ts) ws rest
@@ -135,7 +135,7 @@ back_declarations free d t ts vs ws rest x = λ acc below is.
     by_more : (acc : PDecls) (below : List Value) (ds : PDecls) (mid : List Token) → IsEnded free d (t ∷ ts) ds mid → (ws : List Value) (rest : List Token) →
         IsAll free (declarations d ∷ []) (declared (decls_and acc ds) ∷ below) mid ws rest → Gives (IsDecls free d) (λ ds. declared (decls_and acc ds)) (t ∷ ts) below ws rest
     by_more acc below ds mid y ws rest (cons _ _ _ _ _ _ _ _ f (nil _ _)) = regive _ _ (t ∷ ts) (f (decls_and acc ds) below refl) (λ es. decls_and ds es)
-        (λ es rest z. another ds es mid rest y z) (λ es. ap declared (decls_and-assoc acc ds es))
+        (λ es rest z. another ds es mid rest y z) (λ es. ap declared (decls_and_assoc acc ds es))
 
 pub back_typed : (free : ℕ) (kind : Kind) (d : ℕ) (t : Token) (ts : List Token) (vs ws : List Value) (rest : List Token) (k : TokenKind) → t.kind ≡ k →
     Taken free (turn_typed kind d t.spot k) t ts vs ws rest → IsDue free (typed kind d) vs (t ∷ ts) ws rest
@@ -204,10 +204,10 @@ entered_by free d refuses t ts vs ws rest s a = absurd a
 pub back_procedure_body : (free d : ℕ) (t : Token) (ts : List Token) (vs ws : List Value) (rest : List Token) (k : TokenKind) → t.kind ≡ k →
     Taken free (turn_procedure_body d t.spot k) t ts vs ws rest → IsDue free (procedure_body d) vs (t ∷ ts) ws rest
 back_procedure_body free d t _ vs _ _ (kinds.Word reserved.Forward) w (cons _ _ _ _ _ _ _ _ makes_it (cons _ _ _ _ _ _ _ _ (single u rest s) (nil _ _))) = λ h acc below is.
-    put_given (decls (trees.forward h) no_decls) (ap announced is ∙ ap (λ ds. declared ds ∷ below) (behind-decls acc (trees.forward h)))
+    put_given (decls (trees.forward h) no_decls) (ap announced is ∙ ap (λ ds. declared ds ∷ below) (behind_decls acc (trees.forward h)))
     (λ before x. ended u _ before rest (grammar.announced t h d before (u ∷ rest) x w) s)
 back_procedure_body free d t ts vs _ _ (kinds.Symbol symbols.Semicolon) s (o, cons _ _ _ _ _ _ _ _ makes_it (cons _ _ _ _ _ _ _ _ makes_it (nil _ _))) = λ h acc below is.
-    put_given (decls (trees.procedure h empty) no_decls) (ap (λ us. with_body (stmt empty ∷ us)) is ∙ ap (λ ds. declared ds ∷ below) (behind-decls acc (trees.procedure h empty)))
+    put_given (decls (trees.procedure h empty) no_decls) (ap (λ us. with_body (stmt empty ∷ us)) is ∙ ap (λ ds. declared ds ∷ below) (behind_decls acc (trees.procedure h empty)))
     (λ before x. ended t _ before ts (grammar.with_body h empty d before (t ∷ ts) (t ∷ ts) x o (grammar.nothing (d + 1) (t ∷ ts))) s)
 back_procedure_body free d t ts vs ws rest k e x =
     let r = entered_by free d (turn_start (d + 1) t.spot k refuses) t ts vs ws rest (starts_at (d + 1) t.spot k) x in
@@ -216,7 +216,7 @@ back_procedure_body free d t ts vs ws rest k e x =
     by_end : TokenOpens free d (t ∷ ts) → (s : PStmt) (mid : List Token) → IsClosed free (d + 1) (t ∷ ts) s mid → (ws : List Value) (rest : List Token) →
         IsAll free (make with_body ∷ symbol symbols.Semicolon ∷ []) (stmt s ∷ vs) mid ws rest → IsDue free (procedure_body d) vs (t ∷ ts) ws rest
     by_end o s _ y _ _ (cons _ _ _ _ _ _ _ _ makes_it (cons _ _ _ _ _ _ _ _ (single u rest c) (nil _ _))) = λ h acc below is.
-        put_given (decls (trees.procedure h s) no_decls) (ap (λ us. with_body (stmt s ∷ us)) is ∙ ap (λ ds. declared ds ∷ below) (behind-decls acc (trees.procedure h s)))
+        put_given (decls (trees.procedure h s) no_decls) (ap (λ us. with_body (stmt s ∷ us)) is ∙ ap (λ ds. declared ds ∷ below) (behind_decls acc (trees.procedure h s)))
         (λ before x. ended u _ before rest (grammar.with_body h s d before (t ∷ ts) (u ∷ rest) x o y.reads) c)
 
 pub back_program : (free : ℕ) (b : Bool) (t : Token) (ts : List Token) (vs ws : List Value) (rest : List Token) → is_word reserved.Begin t.kind ≡ b →

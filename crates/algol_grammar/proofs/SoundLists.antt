@@ -18,22 +18,22 @@ use Rattle.algol_tree.specs.Due.{Value, one, many, names, low, pairs, phrases, d
 use Rattle.algol_tree.specs.DueExpr.{list_made, behind, all_of}
 use Rattle.algol_tree.specs.DueStmt.{decl_behind, wholes_in, pair_in, pair_added, segment_in, rows_declared, phrase_added, with_task}
 use Rattle.algol_expr.proofs.Turns.{word_from, symbol_from}
-use Rattle.algol_expr.proofs.Complete.{all_of-behind}
+use Rattle.algol_expr.proofs.Complete.{all_of_behind}
 use Rattle.algol_expr.proofs.Sound.{single, makes_it}
-use Rattle.algol_grammar.proofs.Complete.{decls_and-none}
+use Rattle.algol_grammar.proofs.Complete.{decls_and_none}
 use Rattle.algol_grammar.proofs.Meant.{Gives, gives, passed, one_name, less, IsPhrase, one_phrase, IsSegment, segment, IsDue, IsAll, nil, cons, Taken}
 use Rattle.algol_grammar.proofs.Given.{Then, given, regive, put_given}
 use Rattle.algol_grammar.proofs.SoundHeadings.{names_end}
-use Rattle.algol_grammar.proofs.Lists.{decls-behind}
+use Rattle.algol_grammar.proofs.Lists.{decls_behind}
 
-all_of-none : (acc : PExprs) → all_of acc none ≡ acc
-all_of-none none = refl
-all_of-none (more e es) = ap (more e) (all_of-none es)
+all_of_none : (acc : PExprs) → all_of acc none ≡ acc
+all_of_none none = refl
+all_of_none (more e es) = ap (more e) (all_of_none es)
 
 -- expressions
 
 pub no_wholes_more : (free : ℕ) (vs : List Value) (from : List Token) → IsDue free wholes_more vs from vs from
-no_wholes_more free vs from = λ acc below is. put_given none (is ∙ ap (λ es. many es ∷ below) (sym (all_of-none acc))) (λ before e x. grammar.one e before from x)
+no_wholes_more free vs from = λ acc below is. put_given none (is ∙ ap (λ es. many es ∷ below) (sym (all_of_none acc))) (λ before e x. grammar.one e before from x)
 
 pub back_wholes_more : (free : ℕ) (b : Bool) (t : Token) (ts : List Token) (vs ws : List Value) (rest : List Token) → is_symbol symbols.Comma t.kind ≡ b →
     Taken free (either b (takes plain (whole 0 ∷ make list_made ∷ wholes_more ∷ [])) skips) t ts vs ws rest → IsDue free wholes_more vs (t ∷ ts) ws rest
@@ -41,7 +41,7 @@ back_wholes_more free false t ts vs ws rest e x = absurd x
 back_wholes_more free true t ts vs ws rest e (cons _ _ _ _ _ _ _ _ (gives f mid y) (cons _ _ _ _ _ _ _ _ makes_it (cons _ _ _ _ _ _ _ _ g (nil _ _)))) =
     λ acc below is. regive _ _ (t ∷ ts) (g (behind acc f) below (ap (λ us. list_made (one f ∷ us)) is)) (λ es. more f es)
     (λ es rest p. λ before h x. grammar.comma t h (more f es) before ts rest x (symbol_from t.kind symbols.Comma e) (p ts f y))
-    (λ es. ap many (all_of-behind acc f es))
+    (λ es. ap many (all_of_behind acc f es))
 
 pub wholes_then : (free : ℕ) (more_due : List Due) (vs ws : List Value) (from rest : List Token) → IsAll free (wholes_in ++ more_due) vs from ws rest →
     Then (IsWholes free) many free more_due from vs ws rest
@@ -161,7 +161,7 @@ segments_last : (free : ℕ) (kind : Kind) (before rest : List Token) (d : PDecl
 segments_last free kind before rest _ (segment u v ns ps _ mid _ x o y c) = grammar.last kind u v ns ps before mid rest x o y c
 
 pub no_segments_more : (free : ℕ) (kind : Kind) (vs : List Value) (from : List Token) → IsDue free (segments_more kind) vs from vs from
-no_segments_more free kind vs from = λ acc below is. put_given no_decls (is ∙ ap (λ ds. declared ds ∷ below) (sym (decls_and-none acc))) (λ before d x. segments_last free kind before from d x)
+no_segments_more free kind vs from = λ acc below is. put_given no_decls (is ∙ ap (λ ds. declared ds ∷ below) (sym (decls_and_none acc))) (λ before d x. segments_last free kind before from d x)
 
 module _ (free : ℕ) (kind : Kind) where
   segments_on : (vs ws : List Value) (mid rest : List Token) (acc : PDecls) (below : List Value) → vs ≡ declared acc ∷ below →
@@ -175,7 +175,7 @@ module _ (free : ℕ) (kind : Kind) where
   back_segments vs ws from rest x acc below is =
       let r = segment_then free kind vs ws from rest x in
       regive (IsSegments free kind) _ from (segments_on _ ws r.mid rest (decl_behind acc r.d) below refl (r.second acc below is)) (λ ds. decls r.d ds)
-      (λ ds rest p. p from r.d r.reads) (λ ds. ap declared (decls-behind acc r.d ds))
+      (λ ds rest p. p from r.d r.reads) (λ ds. ap declared (decls_behind acc r.d ds))
 
   pub back_segments_more : (b : Bool) (t : Token) (ts : List Token) (vs ws : List Value) (rest : List Token) → is_symbol symbols.Comma t.kind ≡ b →
       Taken free (either b (takes plain (segment_in kind)) skips) t ts vs ws rest → IsDue free (segments_more kind) vs (t ∷ ts) ws rest

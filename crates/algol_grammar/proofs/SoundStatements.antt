@@ -20,7 +20,7 @@ use Rattle.algol_tree.specs.DueStmt.{stmt_behind, counting, assigned_element, ca
 use Rattle.algol_expr.proofs.Turns.{word_from, symbol_from, word_is}
 use Rattle.algol_expr.proofs.Sound.{single, makes_it, event_is}
 use Rattle.algol_grammar.proofs.Optional.{NotFirst}
-use Rattle.algol_grammar.proofs.Complete.{stmts_and, stmts-behind}
+use Rattle.algol_grammar.proofs.Complete.{stmts_and, stmts_behind}
 use Rattle.algol_grammar.proofs.Meant.{Gives, gives, passed, one_name, less, IsClosed, IsArms, without, with_else, IsDue, IsAll, nil, cons, Taken}
 use Rattle.algol_grammar.proofs.Given.{given, regive, put_given}
 use Rattle.algol_grammar.proofs.SoundLists.{wholes_end, phrases_end}
@@ -28,14 +28,14 @@ use Rattle.algol_grammar.proofs.SoundLists.{wholes_end, phrases_end}
 pub shut : {free d : ℕ} {from : List Token} {s : PStmt} {rest : List Token} → IsStmt free d from s rest → open_if s ≡ false → IsClosed free d from s rest
 shut x e = record { reads = x; closed = λ o. let no : false ≡ true = sym e ∙ o in cc }
 
-stmts_and-none : (acc : PStmts) → stmts_and acc no_stmts ≡ acc
-stmts_and-none no_stmts = refl
-stmts_and-none (stmts s ss) = ap (stmts s) (stmts_and-none ss)
+stmts_and_none : (acc : PStmts) → stmts_and acc no_stmts ≡ acc
+stmts_and_none no_stmts = refl
+stmts_and_none (stmts s ss) = ap (stmts s) (stmts_and_none ss)
 
 -- statements
 
 pub no_stmts_more : (free d : ℕ) (vs : List Value) (from : List Token) → IsDue free (stmts_more d) vs from vs from
-no_stmts_more free d vs from = λ acc below is. put_given no_stmts (is ∙ ap (λ ss. list ss ∷ below) (sym (stmts_and-none acc))) (λ before s x. grammar.last d s before from x)
+no_stmts_more free d vs from = λ acc below is. put_given no_stmts (is ∙ ap (λ ss. list ss ∷ below) (sym (stmts_and_none acc))) (λ before s x. grammar.last d s before from x)
 
 pub back_stmts_more : (free d : ℕ) (b : Bool) (t : Token) (ts : List Token) (vs ws : List Value) (rest : List Token) → is_symbol symbols.Semicolon t.kind ≡ b →
     Taken free (either b (takes plain (statement d ∷ make stmt_added ∷ stmts_more d ∷ [])) skips) t ts vs ws rest → IsDue free (stmts_more d) vs (t ∷ ts) ws rest
@@ -43,7 +43,7 @@ back_stmts_more free d false t ts vs ws rest e x = absurd x
 back_stmts_more free d true t ts vs ws rest e (cons _ _ _ _ _ _ _ _ (gives f mid y) (cons _ _ _ _ _ _ _ _ makes_it (cons _ _ _ _ _ _ _ _ g (nil _ _)))) =
     λ acc below is. regive _ _ (t ∷ ts) (g (stmt_behind acc f) below (ap (λ us. stmt_added (stmt f ∷ us)) is)) (λ ss. stmts f ss)
     (λ ss rest p. λ before h x. grammar.semicolon t d h (stmts f ss) before ts rest x (symbol_from t.kind symbols.Semicolon e) (p ts f y.reads))
-    (λ ss. ap list (stmts-behind acc f ss))
+    (λ ss. ap list (stmts_behind acc f ss))
 
 -- statements and their END
 pub record StmtsEnd (free d : ℕ) (more : List Due) (from : List Token) (vs ws : List Value) (rest : List Token) : Type 0 where

@@ -24,7 +24,7 @@ use Rattle.algol_tree.specs.DueDecl.{spec_simple, spec_events, headed}
 use Rattle.algol_tree.specs.DueStmt.{phrase_added, two_armed, names_declared, announced}
 use Rattle.algol_tree.specs.Reading.{nowhere}
 use Rattle.algol_expr.proofs.Sound.{single, opened, event_is, it, makes_it, left_out, leave_more, leave_relation, leave_name, leave_exprs, leave_events, leave_behind_event}
-use Rattle.algol_grammar.proofs.Lists.{behind-decls}
+use Rattle.algol_grammar.proofs.Lists.{behind_decls}
 use Rattle.algol_grammar.proofs.Meant.{gives, one_name, less, one_phrase, IsArms, with_else, ended, IsDue, IsAll, nil, cons}
 use Rattle.algol_grammar.proofs.Given.{put_given}
 use Rattle.algol_grammar.proofs.SoundHeadings.{no_names_more, no_printer, no_files_more, no_lows_more, no_values, no_specs_more}
@@ -187,13 +187,13 @@ sample free (typed kind d) vs rest o le = (
   names_declared (trees.simple kind) (names (nobody ∷ []) ∷ vs),
   λ acc below is.
       put_given (decls (trees.simple kind (nobody ∷ [])) no_decls) (ap (λ us. names_declared (trees.simple kind) (names (nobody ∷ []) ∷ us)) is
-      ∙ ap (λ ds. declared ds ∷ below) (behind-decls acc (trees.simple kind (nobody ∷ []))))
+      ∙ ap (λ ds. declared ds ∷ below) (behind_decls acc (trees.simple kind (nobody ∷ []))))
       (λ t e. ended _ _ _ rest (grammar.values t kind (nobody ∷ []) d _ _ e (headings.last a_name nobody _ (record { name = refl; place = refl }))) refl),
 )
 sample free (procedure_body d) vs rest o le = (
   announced vs,
   λ h acc below is.
-      put_given (decls (trees.forward h) no_decls) (ap announced is ∙ ap (λ ds. declared ds ∷ below) (behind-decls acc (trees.forward h)))
+      put_given (decls (trees.forward h) no_decls) (ap announced is ∙ ap (λ ds. declared ds ∷ below) (behind_decls acc (trees.forward h)))
       (λ before x. ended _ _ before rest (grammar.announced _ h d before _ x refl) refl),
 )
 sample free program vs rest o le = (

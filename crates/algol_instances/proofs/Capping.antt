@@ -35,47 +35,47 @@ module _ (m : ℕ) (positive : 0 < m) where
       by true false p q =
           ap (λ (x : ℕ). min x m) (mul_comm (min a m) (min b m)) ∙ great b a (grind (arith, nat_tests, q)) ∙ ap (λ (x : ℕ). min x m) (mul_comm b a)
 
-pub capped-mul : (a b : ℕ) → min (capped a * capped b) (2 ^ 64 - 1) ≡ capped (a * b)
-capped-mul a b = times (2 ^ 64 - 1) (lit< tt) a b
+pub capped_mul : (a b : ℕ) → min (capped a * capped b) (2 ^ 64 - 1) ≡ capped (a * b)
+capped_mul a b = times (2 ^ 64 - 1) (lit< tt) a b
 
-capped-again : (b : ℕ) → capped (capped b) ≡ capped b
-capped-again b = omega arith
+capped_again : (b : ℕ) → capped (capped b) ≡ capped b
+capped_again b = omega arith
 
-pub capped-half : (a b : ℕ) → capped (a * capped b) ≡ capped (a * b)
-capped-half a b = sym (capped-mul a (capped b)) ∙ ap (λ (x : ℕ). min (capped a * x) (2 ^ 64 - 1)) (capped-again b) ∙ capped-mul a b
+pub capped_half : (a b : ℕ) → capped (a * capped b) ≡ capped (a * b)
+capped_half a b = sym (capped_mul a (capped b)) ∙ ap (λ (x : ℕ). min (capped a * x) (2 ^ 64 - 1)) (capped_again b) ∙ capped_mul a b
 
-capped-along : (a b s k : ℕ) → capped a ≡ capped b → capped (a * s + k) ≡ capped (b * s + k)
-capped-along a b s k e =
+capped_along : (a b s k : ℕ) → capped a ≡ capped b → capped (a * s + k) ≡ capped (b * s + k)
+capped_along a b s k e =
     let x : capped (a * s) ≡ capped (b * s) =
-    sym (capped-mul a s) ∙ ap (λ (n : ℕ). min (n * capped s) (2 ^ 64 - 1)) e ∙ capped-mul b s in
+    sym (capped_mul a s) ∙ ap (λ (n : ℕ). min (n * capped s) (2 ^ 64 - 1)) e ∙ capped_mul b s in
     more (a * s) (b * s) x
   where
     more : (u v : ℕ) → capped u ≡ capped v → capped (u + k) ≡ capped (v + k)
     more u v x = omega arith
 
-flat-along : (bs : List Bounds) (ks : List ℕ) (a b : ℕ) → capped a ≡ capped b → capped (flat a bs ks) ≡ capped (flat b bs ks)
-flat-along [] [] a b e = e
-flat-along [] (k ∷ ks) a b e = e
-flat-along (x ∷ bs) [] a b e = e
-flat-along (x ∷ bs) (k ∷ ks) a b e = flat-along bs ks (a * size_of x + k) (b * size_of x + k) (capped-along a b (size_of x) k e)
+flat_along : (bs : List Bounds) (ks : List ℕ) (a b : ℕ) → capped a ≡ capped b → capped (flat a bs ks) ≡ capped (flat b bs ks)
+flat_along [] [] a b e = e
+flat_along [] (k ∷ ks) a b e = e
+flat_along (x ∷ bs) [] a b e = e
+flat_along (x ∷ bs) (k ∷ ks) a b e = flat_along bs ks (a * size_of x + k) (b * size_of x + k) (capped_along a b (size_of x) k e)
 
-pub flat-next :
+pub flat_next :
     (before s k : ℕ) (bs : List Bounds) (ks : List ℕ)
     → capped (flat (capped (capped (before * capped s) + k)) bs ks) ≡ capped (flat (before * s + k) bs ks)
-flat-next before s k bs ks =
-    flat-along bs ks (capped (capped (before * capped s) + k)) (before * s + k)
-    (rw (capped-half before s) (last (before * s)))
+flat_next before s k bs ks =
+    flat_along bs ks (capped (capped (before * capped s) + k)) (before * s + k)
+    (rw (capped_half before s) (last (before * s)))
   where
     last : (u : ℕ) → capped (capped (capped u + k)) ≡ capped (u + k)
     last u = omega arith
 
-pub ruleset capping = (capped-mul, flat-next)
+pub ruleset capping = (capped_mul, flat_next)
 
 -- a sum that has come so far, and one more
-pub capped-more : (so_far one others : ℕ) → capped (min (so_far + capped one) (2 ^ 64 - 1) + others) ≡ capped (so_far + (one + others))
-capped-more so_far one others = omega arith
+pub capped_more : (so_far one others : ℕ) → capped (min (so_far + capped one) (2 ^ 64 - 1) + others) ≡ capped (so_far + (one + others))
+capped_more so_far one others = omega arith
 
-pub ruleset adding = capped-more
+pub ruleset adding = capped_more
 
 -- what lived, what is gone and what has come make what lives now, where they are not too great together
 pub adjusted_so :

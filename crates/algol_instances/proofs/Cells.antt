@@ -7,25 +7,14 @@ use Rattle.algol_meaning.specs.World.{cells_with}
 use Rattle.algol_cells.specs.SeenCell as seen
 use Rattle.algol_cells.specs.declared.cell.Cell.{Cell}
 use Rattle.b67_list.specs.Numbered.{numbered, set_numbered}
+use Rattle.b67_list.proofs.Numbered.{numbered_same}
 use Rattle.algol_instances.specs.SeenInstance.{named_cell, named_cells, instance, place_of_number, cell_place_in, further}
 use Rattle.algol_instances.specs.Counting.{displaced}
 use Rattle.algol_instances.specs.declared.instance.NamedCell.{NamedCell}
 use Rattle.algol_instances.specs.declared.instance.Instance.{Instance}
-use Rattle.algol_instances.proofs.Numbering.{get_place, set_place, set_same}
+use Rattle.algol_instances.proofs.Numbering.{get_place, set_place}
 
 -- ---- the place of a name
-
-pub place_here : (c : NamedCell) (cs : List NamedCell) (name : List ℕ) → true ≡ same_name c.name.now name → cell_place_in (c ∷ cs) name ≡ Some 0
-place_here c cs name e = rw (← e) refl
-
-pub place_later :
-    (c : NamedCell) (cs : List NamedCell) (name : List ℕ) (k : ℕ)
-    → false ≡ same_name c.name.now name → further k (cell_place_in (c ∷ cs) name) ≡ further (k + 1) (cell_place_in cs name)
-place_later c cs name k e = rw (← e) (twice (cell_place_in cs name))
-  where
-    twice : (o : Option ℕ) → further k (further 1 o) ≡ further (k + 1) o
-    twice None = refl
-    twice (Some j) = ap Some (omega arith)
 
 -- ---- another content
 
@@ -167,4 +156,4 @@ pub unchanged_at :
     → map instance (slice_set xs k y) ≡ map instance xs
 unchanged_at xs n k x y e within is c =
     set_place xs instance n k y e ∙ ap (set_numbered (map instance xs) n) c
-    ∙ set_same (map instance xs) n (instance x) (get_place xs instance n k x e within is)
+    ∙ numbered_same (map instance xs) n (instance x) (get_place xs instance n k x e within is)

@@ -6,6 +6,7 @@ use Rattle.algol_meaning.specs.Value.{Value, Reference, Cell, simple, named, ref
 use Rattle.algol_meaning.specs.World.{NamedCell, Instance, World, or_no_instance, instance_at, cell_in, cell_at, cells_with, set_cell, add_cells, array_in}
 use Rattle.algol_meaning.specs.Instances.{leave}
 use Rattle.algol_meaning.specs.Arrays.{with_element, size_of_cell, size_of_cells, size_unless, live_elements}
+use Rattle.algol_meaning.proofs.Cited.{elements_behind}
 use Rattle.algol_instances.specs.SeenArray.{capped}
 use Rattle.algol_instances.specs.SeenInstance.{instance, zero_cell, holding}
 use Rattle.algol_instances.specs.Counting.{live_in, cell_is_array, displaced, displaced_at, Adjusts}
@@ -27,10 +28,6 @@ cells_changed (c ∷ cs) name cell = by (same_name c.name name) (cells_changed c
         ≡ size_of_cell c.cell + size_of_cells cs + size_of_cell cell
     by true h = omega arith
     by false h = omega arith
-
-cells_joined : (cs ds : List NamedCell) → size_of_cells (cs ++ ds) ≡ size_of_cells cs + size_of_cells ds
-cells_joined [] ds = omega arith
-cells_joined (c ∷ cs) ds = let h = cells_joined cs ds in omega arith
 
 pub displaced_zero : (cs : List NamedCell) (name : List ℕ) → displaced cs name zero_cell ≡ cell_in cs name
 displaced_zero [] name = refl
@@ -92,7 +89,7 @@ pub adding_counts :
 adding_counts xs n more =
     let x = instance_at (holding xs) n in
     by x.left (live_elements xs) (live_elements ((add_cells (holding xs) n more).instances)) (size_of_cells x.cells)
-    (size_of_cells (x.cells ++ more)) (counts (λ y. record y { cells = y.cells ++ more }) refl xs n) (cells_joined x.cells more)
+    (size_of_cells (x.cells ++ more)) (counts (λ y. record y { cells = y.cells ++ more }) refl xs n) (elements_behind x.cells more)
   where
     by :
         (left : Bool) (was now old new : ℕ) → now + size_unless left old ≡ was + size_unless left new → new ≡ old + size_of_cells more
@@ -169,7 +166,7 @@ more_counts : (xs : List Instance) (x : Instance) → live_elements (xs ++ x ∷
 more_counts [] x = omega arith
 more_counts (y ∷ xs) x = let h = more_counts xs x in omega arith
 
-map_more : (is : List code.Instance) (i : code.Instance) → map instance (is ++ i ∷ []) ≡ map instance is ++ instance i ∷ []
+pub map_more : (is : List code.Instance) (i : code.Instance) → map instance (is ++ i ∷ []) ≡ map instance is ++ instance i ∷ []
 map_more [] i = refl
 map_more (j ∷ is) i = ap (λ (xs : List Instance). instance j ∷ xs) (map_more is i)
 

@@ -22,26 +22,12 @@ module _ {A B : Type 0} where
       let same : k ≡ j = cc in
       map-set f xs k x ∙ ap (λ (i : ℕ). slice_set (map f xs) i (f x)) same
 
-pub set_same : {A : Type 0} (xs : List A) (n : ℕ) (x : A) → numbered xs n ≡ Some x → set_numbered xs n x ≡ xs
-set_same [] zero x e = refl
-set_same [] (suc k) x e = refl
-set_same (y ∷ xs) zero x e = refl
-set_same (y ∷ xs) (suc zero) x e = let p : y ≡ x = cc in ap (λ (z : _). z ∷ xs) (sym p)
-set_same (y ∷ xs) (suc (suc k)) x e = ap (λ (z : _). y ∷ z) (set_same xs (suc k) x e)
-
 pub set_none : {A : Type 0} (xs : List A) (n : ℕ) (x : A) → numbered xs n ≡ None → set_numbered xs n x ≡ xs
 set_none [] zero x e = refl
 set_none [] (suc k) x e = refl
 set_none (y ∷ xs) zero x e = refl
 set_none (y ∷ xs) (suc zero) x e = cc
 set_none (y ∷ xs) (suc (suc k)) x e = ap (λ (z : _). y ∷ z) (set_none xs (suc k) x e)
-
-pub set_twice : {A : Type 0} (xs : List A) (n : ℕ) (x y : A) → set_numbered (set_numbered xs n x) n y ≡ set_numbered xs n y
-set_twice [] zero x y = refl
-set_twice [] (suc k) x y = refl
-set_twice (z ∷ xs) zero x y = refl
-set_twice (z ∷ xs) (suc zero) x y = refl
-set_twice (z ∷ xs) (suc (suc k)) x y = ap (λ (r : _). z ∷ r) (set_twice xs (suc k) x y)
 
 -- ---- maps
 

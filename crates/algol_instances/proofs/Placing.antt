@@ -81,5 +81,3 @@ moved_so sort.formal_event b d i low e = cc
 moved_so sort.label b d i low e = cc
 moved_so sort.file b d i low e = cc
 moved_so (sort.procedure n) b d i low e = cc
-
-pub ruleset moving = (moved_not, moved_so)

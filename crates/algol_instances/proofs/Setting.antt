@@ -1,17 +1,12 @@
 -- Laws of one change of a cell after another.
-use Rattle.std.proofs.Common.{◌≡◌, refl, ℕ, zero, suc, if◌then◌else◌, Bool, true, false, List, [], ◌∷◌, ap, ◌∙◌, Option, Some, None}
+use Rattle.std.proofs.Common.{◌≡◌, refl, ℕ, if◌then◌else◌, Bool, true, false, List, [], ◌∷◌, ap, ◌∙◌, Option, Some, None}
 use Rattle.b67_list.specs.Numbered.{numbered, set_numbered}
+use Rattle.b67_list.proofs.Numbered.{numbered_set, numbered_twice}
 use Rattle.algol_tree.specs.Sorts.{same_name}
 use Rattle.algol_meaning.specs.Value.{Reference, Cell}
 use Rattle.algol_meaning.specs.World.{NamedCell, Instance, or_no_instance, World, cells_with, set_cell}
 use Rattle.algol_instances.specs.SeenInstance.{zero_cell}
-use Rattle.algol_instances.proofs.Numbering.{set_none, set_twice}
-
-get_set : {A : Type 0} (xs : List A) (n : ℕ) (y z : A) → numbered xs n ≡ Some y → numbered (set_numbered xs n z) n ≡ Some z
-get_set xs zero y z e = cc
-get_set [] (suc k) y z e = cc
-get_set (x ∷ xs) (suc zero) y z e = refl
-get_set (x ∷ xs) (suc (suc k)) y z e = get_set xs (suc k) y z e
+use Rattle.algol_instances.proofs.Numbering.{set_none}
 
 with_twice : (cs : List NamedCell) (name : List ℕ) (a b : Cell) → cells_with (cells_with cs name a) name b ≡ cells_with cs name b
 with_twice [] name a b = refl
@@ -39,8 +34,8 @@ module _ (name : List ℕ) (a b : Cell) where
   again is n None e =
       rw (set_none is n (with_a (or_no_instance None)) e) (set_none is n (with_b (or_no_instance (numbered is n))) e)
   again is n (Some y) e =
-      rw (get_set is n y (with_a y) e)
-      (set_twice is n (with_a y) (with_b (with_a y))
+      rw (numbered_set is n y (with_a y) e)
+      (numbered_twice is n (with_a y) (with_b (with_a y))
       ∙ ap (λ (cells : List NamedCell). set_numbered is n (record y { cells = cells })) (with_twice y.cells name a b))
 
   set_again_at :

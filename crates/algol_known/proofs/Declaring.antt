@@ -20,8 +20,8 @@ same (x ∷ xs) (y ∷ ys) = ap (λ b. (x == y) && b) (same xs ys)
 same [] (y ∷ ys) = refl
 same (x ∷ xs) [] = refl
 
-own-more : (a : Surroundings) (d : Declared) → d.block ≡ a.block → own_declared (record a { known = d ∷ a.known }) ≡ d ∷ own_declared a
-own-more a d h = ap (λ (b : Bool). if b then d ∷ own_declared a else own_declared a) (eq-eqb d.block a.block h)
+own_more : (a : Surroundings) (d : Declared) → d.block ≡ a.block → own_declared (record a { known = d ∷ a.known }) ≡ d ∷ own_declared a
+own_more a d h = ap (λ (b : Bool). if b then d ∷ own_declared a else own_declared a) (eq-eqb d.block a.block h)
 
 -- what is found under a name after a declaration of it, or of another
 choose : (ps : List Procedure) (g : Option Entry → Option Entry) (old new : Option Entry) (entry : Entry) (d : Declared) (l : Option Declared) (b s : Bool) →
@@ -67,7 +67,7 @@ declares k m name entry p parameters block =
                 subst P (sym parameters)
                 (let Q : List Declared → Type 0 =
                 λ z. NameIsFound k.procedures.items (or_else (entry_in m.declared q) (entry_in k.innermost.parameters q)) (look_up z q) in
-                subst Q (sym (own-more a d b))
+                subst Q (sym (own_more a d b))
                 (choose k.procedures.items (λ z. or_else z (entry_in k.innermost.parameters q)) (entry_in k.innermost.declared q)
                 (entry_in m.declared q) entry d (look_up (own_declared a) q) (bytes_eq name q) (same_name d.name q) refl (named d name q n) (p q) e (h.here q)));
           };
@@ -75,12 +75,12 @@ declares k m name entry p parameters block =
 
 -- ---- a parameter, in a block that declares nothing yet
 
-bare-seen : (declared parameters : NameTable) (sees : Seen) (q : List ℕ) → IsBare declared → seen_under declared parameters sees q ≡ entry_in parameters q
-bare-seen declared parameters seens.All q b = ap (λ z. or_else z (entry_in parameters q)) (b q)
-bare-seen declared parameters seens.BeforeDeclarations q b = refl
+bare_seen : (declared parameters : NameTable) (sees : Seen) (q : List ℕ) → IsBare declared → seen_under declared parameters sees q ≡ entry_in parameters q
+bare_seen declared parameters seens.All q b = ap (λ z. or_else z (entry_in parameters q)) (b q)
+bare_seen declared parameters seens.BeforeDeclarations q b = refl
 
-still-bare : (old new : NameTable) → new ≡ old → IsBare old → IsBare new
-still-bare old new h b = λ q. ap (λ z. entry_in z q) h ∙ b q
+still_bare : (old new : NameTable) → new ≡ old → IsBare old → IsBare new
+still_bare old new h b = λ q. ap (λ z. entry_in z q) h ∙ b q
 
 pub introduces : (k : Around) (m : Names) (name : List ℕ) (entry : Entry) → NamePuts k.innermost.parameters m.parameters name entry →
     m.declared ≡ k.innermost.declared → m.block ≡ k.innermost.block → Introduces k (record k { innermost = m }) name entry
@@ -96,10 +96,10 @@ introduces k m name entry p same_declared block =
                 let rest : Option Entry = looked_up (reverse k.outer.items) seens.All q in
                 let P : Option Entry → Type 0 = λ z. NameIsFound k.procedures.items (or_else z rest) (look_up a.known q) in
                 let Q : Option Entry → Type 0 = λ z. NameIsFound k.procedures.items (or_else z rest) (look_up (d ∷ a.known) q) in
-                subst Q (sym (bare-seen m.declared m.parameters sees q (still-bare k.innermost.declared m.declared same_declared b)))
+                subst Q (sym (bare_seen m.declared m.parameters sees q (still_bare k.innermost.declared m.declared same_declared b)))
                 (choose k.procedures.items (λ z. or_else z rest) (entry_in k.innermost.parameters q) (entry_in m.parameters q) entry d
                 (look_up a.known q) (bytes_eq name q) (same_name d.name q) refl (named d name q n) (p q) e
-                (subst P (bare-seen k.innermost.declared k.innermost.parameters sees q b) (s.names q)));
+                (subst P (bare_seen k.innermost.declared k.innermost.parameters sees q b) (s.names q)));
           };
       holds =
           λ a d b h n o e.
@@ -109,10 +109,10 @@ introduces k m name entry p same_declared block =
                 let P : Option Entry → Type 0 = λ z. NameIsFound k.procedures.items z (look_up (own_declared a) q) in
                 let Q : Option Entry → Type 0 = λ z. NameIsFound k.procedures.items z (look_up (own_declared (record a { known = d ∷ a.known })) q) in
                 let R : List Declared → Type 0 = λ z. NameIsFound k.procedures.items (entry_in m.parameters q) (look_up z q) in
-                subst Q (sym (bare-seen m.declared m.parameters seens.All q (still-bare k.innermost.declared m.declared same_declared b)))
-                (subst R (sym (own-more a d o))
+                subst Q (sym (bare_seen m.declared m.parameters seens.All q (still_bare k.innermost.declared m.declared same_declared b)))
+                (subst R (sym (own_more a d o))
                 (choose k.procedures.items (λ z. z) (entry_in k.innermost.parameters q) (entry_in m.parameters q) entry d (look_up (own_declared a) q)
                 (bytes_eq name q) (same_name d.name q) refl (named d name q n) (p q) e
-                (subst P (bare-seen k.innermost.declared k.innermost.parameters seens.All q b) (h.here q))));
+                (subst P (bare_seen k.innermost.declared k.innermost.parameters seens.All q b) (h.here q))));
           };
     }

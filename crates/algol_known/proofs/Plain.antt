@@ -13,20 +13,18 @@ use Rattle.algol_tree.specs.Plain.{PExpr, PExprs}
 use Rattle.algol_tree.specs.declared.tree.Expr as exprs_of
 use Rattle.algol_tree.specs.declared.tree.Expr.{Expr}
 use Rattle.algol_tree.specs.declared.tree.Expr.TheVariants as expression
-use Rattle.algol_tree.specs.declared.tree.Variable as variables
 use Rattle.algol_tree.specs.declared.tree.Variable.{Variable}
-use Rattle.algol_tree.specs.declared.tree.Call as calls
-use Rattle.algol_tree.specs.declared.tree.Call.{Call}
-use Rattle.algol_tree.specs.Image.{expr, exprs, variable, call}
+use Rattle.algol_tree.specs.Image.{expr, exprs, variable}
 use Rattle.algol_tree.specs.Surroundings.{Surroundings, class_of_declared}
 use Rattle.algol_tree.specs.Classes as classes
 use Rattle.algol_tree.specs.Sorts.{Declared, look_up}
 use Rattle.algol_tree.specs.Cells as cells
 use Rattle.algol_tree.specs.Cells.{has_cell}
 use Rattle.algol_tree.specs.Classes.{Formal}
+use Rattle.algol_tree.proofs.Images.{variable_is}
 use Rattle.algol_sorts.specs.declared.sort.Sort.{Sort}
 use Rattle.algol_sorts.specs.Sorts as sorts
-use Rattle.algol_sorts.proofs.Sorts.{parameter-by-name}
+use Rattle.algol_sorts.proofs.Sorts.{parameter_by_name}
 use Rattle.algol_known.specs.declared.known.Entry.{Entry}
 use Rattle.algol_known.specs.declared.known.Seen.{Seen}
 use Rattle.algol_known.specs.declared.around.Around.{Around}
@@ -34,17 +32,8 @@ use Rattle.algol_known.specs.declared.around.Procedure.{Procedure}
 use Rattle.algol_known.specs.Looking.{looked_up, open_blocks}
 use Rattle.algol_known.specs.Seeing.{Sees, NameIsFound, known_is_simple, mode_given, mode_of, name_parameter}
 
-pub variable_is : (v : Variable) → variable v ≡ tree.subscripted v.name (exprs v.subs)
-variable_is v = search (rules, variables.the_lemmas)
-
-pub call_is : (c : Call) → call c ≡ tree.called c.name (exprs c.actuals)
-call_is c = search (rules, calls.the_lemmas)
-
 of_variable : (v : Variable) → expr (expression.Variable v) ≡ tree.variable (variable v)
 of_variable v = search (rules, exprs_of.the_lemmas)
-
-of_call : (c : Call) → expr (expression.Call c) ≡ tree.call (call c)
-of_call c = search (rules, exprs_of.the_lemmas)
 
 pub expr_variable : (e : Expr) (v : Variable) → e ≡ expression.Variable v → expr e ≡ tree.variable (tree.subscripted v.name (exprs v.subs))
 expr_variable e v h = ap expr h ∙ of_variable v ∙ ap (λ w. tree.variable w) (variable_is v)
@@ -90,7 +79,7 @@ expr_if e c a b spot x y z h i j l =
     of_if : (c a b : Box Expr Global) (spot : Spot) → expr (expression.If c a b spot) ≡ tree.if (expr c.value) (expr a.value) (expr b.value) spot
     of_if c a b spot = search (rules, exprs_of.the_lemmas)
 
-not_empty : (n : ℕ) → (suc n == 0) ≡ true → ⊥
+pub not_empty : (n : ℕ) → (suc n == 0) ≡ true → ⊥
 not_empty n h = grind arith
 
 with_subscripts : (n : Named) (es : List Expr) (a : Surroundings) → (length es == 0) ≡ false →
@@ -129,13 +118,13 @@ plain_as k seen e v items b name entry a h i l f n u s =
 
 -- ---- parameters by name
 
-pub none-given : (m : Option Sort) (f : Option Formal) → m ≡ None → m ≡ mode_given f → false ≡ cells.formal_is_by_name f
-none-given m None h e = refl
-none-given m (Some g) h e = absurd (let clash : None ≡ Some (mode_of g) = sym h ∙ e in cc)
+pub none_given : (m : Option Sort) (f : Option Formal) → m ≡ None → m ≡ mode_given f → false ≡ cells.formal_is_by_name f
+none_given m None h e = refl
+none_given m (Some g) h e = absurd (let clash : None ≡ Some (mode_of g) = sym h ∙ e in cc)
 
-pub some-given : (m : Option Sort) (s : Sort) (f : Option Formal) (b : Bool) → m ≡ Some s → b ≡ sorts.sort_is_by_name s → m ≡ mode_given f → b ≡ cells.formal_is_by_name f
-some-given m s None b h k e = absurd (let clash : Some s ≡ None = sym h ∙ e in cc)
-some-given m s (Some g) b h k e =
+pub some_given : (m : Option Sort) (s : Sort) (f : Option Formal) (b : Bool) → m ≡ Some s → b ≡ sorts.sort_is_by_name s → m ≡ mode_given f → b ≡ cells.formal_is_by_name f
+some_given m s None b h k e = absurd (let clash : Some s ≡ None = sym h ∙ e in cc)
+some_given m s (Some g) b h k e =
     let both : Some s ≡ Some (mode_of g) = sym h ∙ e in
     let same : s ≡ mode_of g = cc in
-    k ∙ ap sorts.sort_is_by_name same ∙ parameter-by-name g.class g.by_value
+    k ∙ ap sorts.sort_is_by_name same ∙ parameter_by_name g.class g.by_value

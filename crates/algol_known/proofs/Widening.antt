@@ -1,5 +1,5 @@
 -- Declarations of the innermost block, one after the other.
-use Rattle.std.proofs.Common.{◌≡◌, ℕ, ◌+◌, List, ◌∷◌, length, ap, ◌∙◌, Result, Ok, Err, OnOk}
+use Rattle.std.proofs.Common.{◌≡◌, ℕ, ◌+◌, List, ◌∷◌, length, ap, ◌∙◌}
 use Rattle.std.specs.Prelude.{min}
 use Rattle.algol_tree.specs.Sorts.{Declared}
 use Rattle.algol_tree.specs.Surroundings.{Surroundings}
@@ -12,12 +12,8 @@ use Rattle.algol_known.specs.Looking.{level_within}
 use Rattle.algol_known.specs.Seeing.{Declares, IsEntry, Sees}
 use Rattle.algol_known.specs.Widening.{Widens}
 
-pub on_ok : {A E : Type 0} (r : Result A E) {P Q : Type 0} → (P → Q) → OnOk r P → OnOk r Q
-on_ok (Ok x) f h = f h
-on_ok (Err e) f h = tt
-
-pub widens-then : (k l m : Around) (f g : Surroundings → Surroundings) → Widens k l f → Widens l m g → Widens k m (λ a. g (f a))
-widens-then k l m f g x y =
+pub widens_then : (k l m : Around) (f g : Surroundings → Surroundings) → Widens k l f → Widens l m g → Widens k m (λ a. g (f a))
+widens_then k l m f g x y =
     record {
       outer = y.outer ∙ x.outer;
       procedures = y.procedures ∙ x.procedures;
@@ -28,12 +24,12 @@ widens-then k l m f g x y =
     }
 
 -- one more declaration
-pub widens-one : (k m : Around) (name : List ℕ) (entry : Entry) (d : Surroundings → Declared) → Declares k m name entry → m.outer ≡ k.outer →
+pub widens_one : (k m : Around) (name : List ℕ) (entry : Entry) (d : Surroundings → Declared) → Declares k m name entry → m.outer ≡ k.outer →
     m.procedures ≡ k.procedures → m.innermost.typed ≡ k.innermost.typed →
     ((a : Surroundings) → Sees k seens.BeforeDeclarations a → Sees m seens.BeforeDeclarations a) → ((a : Surroundings) → (d a).name ≡ name) →
     ((a : Surroundings) → (d a).block ≡ a.block) → ((a : Surroundings) → Sees k seens.All a → IsEntry k.procedures.items entry (d a)) →
     Widens k m (λ a. record a { known = d a ∷ a.known })
-widens-one k m name entry d declares o p t before named in_block is =
+widens_one k m name entry d declares o p t before named in_block is =
     record {
       outer = o;
       procedures = p;
@@ -43,5 +39,5 @@ widens-one k m name entry d declares o p t before named in_block is =
       holds = λ a s h. declares.holds a (d a) h (named a) (in_block a) (is a s);
     }
 
-pub level-here : (k : Around) (seen : Seen) (a : Surroundings) → Sees k seen a → level_within k ≡ min (level_at a.depth) 255
-level-here k seen a s = ap (λ z. min (z + 2) 255) s.depth
+pub level_here : (k : Around) (seen : Seen) (a : Surroundings) → Sees k seen a → level_within k ≡ min (level_at a.depth) 255
+level_here k seen a s = ap (λ z. min (z + 2) 255) s.depth

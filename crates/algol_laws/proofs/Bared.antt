@@ -87,10 +87,6 @@ bare_marked u i =
     (outlines_set u.instances i (record (instance_at u i) { left = true })
     ∙ ap (λ (o : Outline). set_numbered (map outline u.instances) i (record o { left = true })) (outline_numbered u.instances i))
 
-pub leave_processes : (w : World) (is : List ℕ) → (leave w is).processes ≡ w.processes
-leave_processes w [] = refl
-leave_processes w (i ∷ is) = leave_processes (with_instance w i (record (instance_at w i) { left = true })) is
-
 pub leave_alike : (is : List ℕ) (u v : World) → bare v ≡ bare u → bare (leave v is) ≡ bare (leave u is)
 leave_alike [] u v e = e
 leave_alike (i ∷ is) u v e =

@@ -30,10 +30,11 @@ use Rattle.algol_meaning.specs.Lines.{line_of}
 use Rattle.algol_meaning.specs.Asks as asks
 use Rattle.algol_meaning.specs.Asks.{Ask, ask, resume, evaluated_of, located_of}
 use Rattle.algol_meaning.specs.Choice.{Choice, choice, choice_in, choice_of, nth_exists, is_subscripted, answered, goes, goes_releasing, stops, opens, fails, home, here, read_of, resolved_of, indexed_at, element_read_at, stored, given_cells, with_new_instance, new_part, entered_procedure, entered_block, left_with, ended_releasing, left_or_ended, left_choice, gone, gone_to, goes_to, task_of, with_started, next_process, starts, told_answer, did, does_with_first, all_followed, waits_for_any, wakes, wakes_or_waits, does_with, made_arrays}
+use Rattle.algol_meaning.proofs.Cited.{leave_processes}
 use Rattle.algol_laws.specs.Kept.{WorldKept, Freed, nobody, stays_woken, woken_of, ProcessKept, EachActionKeeps, lists_of, stored_by_release, where_none, cell_of_place, stored_by_end, task_at_end, stored_by_first, stored_by_several, stored_by_deed, stored_by, stored_in, stored_cells, woken_by_end, woken_at_end, woken_by_first, woken_by_deed, woken_by_ask, woken_in, freed_by}
 use Rattle.algol_laws.proofs.Keeping.{unchanged, kept_then, kept_before, nobody_kept, cell_set, cells_added, instances_left, instance_added, process_added, line_added, fault_kept, actor_set}
 use Rattle.algol_laws.proofs.Releasing.{deed_keeps, joins_keep}
-use Rattle.algol_laws.proofs.Bared.{cell_left, leave_processes}
+use Rattle.algol_laws.proofs.Bared.{cell_left}
 
 module _ (sc : Scopes) (w : World) (p : ℕ) (q : Process) (part : Part) (outer : List Part) (is : numbered w.processes p ≡ Some q) where
   -- the choice keeps all but that cell
@@ -70,9 +71,6 @@ module _ (sc : Scopes) (w : World) (p : ℕ) (q : Process) (part : Part) (outer 
       WorldKept p (record { processes = x.processes; woken = woken }) s w x.world → KeepsTelling woken s (goes_releasing sc w p q part outer action x a)
   releasing_keeps woken s action x a f =
       acts s (record { processes = x.processes; woken = woken }) x.world f (record q { todo = answered sc w p q part outer a ∷ outer }) refl refl
-
-  stops_keeps : (s : List Reference) (action : Letter) (after : World) (state : State) → WorldKept p nobody s w after → Keeps s (stops sc w p q part outer action after state)
-  stops_keeps s action after state f = acts s nobody after f (record q { todo = answered sc w p q part outer done ∷ outer; state = state }) refl refl
 
   opens_keeps : (s : List Reference) (after : World) (inner : Part) → WorldKept p nobody s w after → Keeps s (opens sc w p q part outer after inner)
   opens_keeps s after inner f = acts s nobody after f (record q { todo = inner ∷ answered sc w p q part outer entered ∷ outer }) refl refl

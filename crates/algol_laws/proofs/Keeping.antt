@@ -1,25 +1,23 @@
 -- What each change of a world leaves as it is.
 use Rattle.std.proofs.Common.{◌≡◌, refl, sym, ap, ◌∙◌, subst, ℕ, zero, suc, List, [], ◌∷◌, ◌++◌, Option, Some, Bool, true, false}
-use Rattle.std.specs.Prelude.{slice_get, if◌then◌else◌, ◌==◌}
+use Rattle.std.specs.Prelude.{if◌then◌else◌, ◌==◌}
 use Rattle.std.proofs.lemmas.List.{append_assoc, append-nil}
 use Rattle.b67_list.specs.Numbered.{numbered, set_numbered}
+use Rattle.b67_list.proofs.Lists.{get_front}
+use Rattle.b67_list.proofs.Numbered.{numbered_set}
+use Rattle.b67_list.proofs.Numbers.{number_itself, same_number}
 use Rattle.algol_tree.specs.Sorts.{same_name}
 use Rattle.algol_meaning.specs.Value.{Reference, Cell}
 use Rattle.algol_meaning.specs.World.{NamedCell, Instance, Process, WorldFault, World, instance_at, or_no_instance, cell_in, cells_with, with_instance, set_cell, add_cells, with_process}
 use Rattle.algol_meaning.specs.Instances.{leave}
 use Rattle.algol_laws.specs.Kept.{cell_is_there, InstanceGrown, ProcessGrown, InstanceKept, Freed, nobody, ProcessKept, WorldKept}
-use Rattle.algol_laws.proofs.Cells.{numbered_set, numbered_other, same_number, itself, with_other}
+use Rattle.algol_laws.proofs.Cells.{numbered_other, with_other}
 
 -- ---- lists
 
-got_before : {A : Type 0} (xs ys : List A) (k : ℕ) (x : A) → slice_get xs k ≡ Some x → slice_get (xs ++ ys) k ≡ Some x
-got_before [] ys k x e = cc
-got_before (z ∷ xs) ys zero x e = e
-got_before (z ∷ xs) ys (suc k) x e = got_before xs ys k x e
-
 pub numbered_before : {A : Type 0} (xs ys : List A) (i : ℕ) (x : A) → numbered xs i ≡ Some x → numbered (xs ++ ys) i ≡ Some x
 numbered_before xs ys zero x e = cc
-numbered_before xs ys (suc k) x e = got_before xs ys k x e
+numbered_before xs ys (suc k) x e = get_front xs ys k x e
 
 -- ---- cells
 
@@ -154,7 +152,7 @@ or_this : (o : Option Instance) (x : Instance) → o ≡ Some x → or_no_instan
 or_this o x e = ap or_no_instance e
 
 not_itself : (i j : ℕ) → i ≡ j → (j == i) ≡ false → ⊥
-not_itself i j same e = let wrong : false ≡ true = sym e ∙ ap (λ k. j == k) same ∙ itself j in cc
+not_itself i j same e = let wrong : false ≡ true = sym e ∙ ap (λ k. j == k) same ∙ number_itself j in cc
 
 pub instance_changed : (p : ℕ) (s : List Reference) (w : World) (i : ℕ) (y : Instance) → InstanceKept s i (instance_at w i) y → WorldKept p nobody s w (with_instance w i y)
 instance_changed p s w i y f =

@@ -1,7 +1,6 @@
 pub mod Quiet
 pub mod Heads
 pub mod Cells
-pub mod Parents
 pub mod Keeping
 pub mod Releasing
 pub mod Choices

@@ -3,6 +3,9 @@ use Rattle.std.proofs.Common.{◌≡◌, ◌⊎◌, refl, sym, ap, subst, ◌∙
 use Rattle.std.specs.Prelude.{slice_get, slice_set, if◌then◌else◌, ◌||◌, ◌==◌}
 use Rattle.std.proofs.lemmas.List.{append-nil}
 use Rattle.b67_list.specs.Numbered.{numbered, set_numbered}
+use Rattle.b67_list.proofs.Numbered.{numbered_set}
+use Rattle.b67_list.proofs.Numbers.{number_other, same_number}
+use Rattle.b67_list.proofs.Truths.{false_true}
 use Rattle.b67_deeds.specs.declared.EventAct.TheVariants as act
 use Rattle.b67_deeds.specs.declared.EventTest.TheVariants as test
 use Rattle.b67_deeds.specs.Events.{EventState, left_by}
@@ -11,8 +14,9 @@ use Rattle.algol_meaning.specs.Value.{Reference, event}
 use Rattle.algol_meaning.specs.World.{Instance, able, Process, World, or_no_process, process_at, set_able, set_all_able}
 use Rattle.algol_meaning.specs.Critical.{process_is_one_of}
 use Rattle.algol_meaning.specs.Events.{event_at, change_event, same_reference, first_that, reference_is_among, joined_all, list_in, forgotten, told_number, woken_by, withdrawn, all_withdrawn, released}
+use Rattle.algol_meaning.proofs.Cited.{joined_processes}
 use Rattle.algol_laws.specs.Kept.{InstanceKept, nobody, woken_of, ProcessKept, WorldKept, IsNoneOf, changed_cells, lists_of, stored_by_release}
-use Rattle.algol_laws.proofs.Cells.{numbered_set, numbered_other, same_number, itself}
+use Rattle.algol_laws.proofs.Cells.{numbered_other}
 use Rattle.algol_laws.proofs.Keeping.{instance_stays, instance_after, cell_set}
 
 -- ---- which processes
@@ -39,21 +43,6 @@ changed_processes w r (Some change) = refl
 pub forgotten_processes : (w : World) (p : ℕ) (rs : List Reference) → (forgotten w p rs).processes ≡ w.processes
 forgotten_processes w p [] = refl
 forgotten_processes w p (r ∷ rs) = forgotten_processes (change_event w r (Some (left_by p))) p rs
-
-pub joined_processes : (w : World) (p : ℕ) (seen rs : List Reference) → (joined_all w p seen rs).processes ≡ w.processes
-joined_processes w p seen [] = refl
-joined_processes w p seen (r ∷ rs) = by (reference_is_among seen r) (joined_processes w p (r ∷ seen) rs) (joined_processes next p (r ∷ seen) rs)
-  where
-    next : World
-    next = change_event w r (deed (tests test.WaitAny) p (event_at w r)).change
-
-    by : (b : Bool) → (joined_all w p (r ∷ seen) rs).processes ≡ w.processes → (joined_all next p (r ∷ seen) rs).processes ≡ w.processes →
-        (if b then joined_all w p (r ∷ seen) rs else (joined_all next p (r ∷ seen) rs)).processes ≡ w.processes
-    by true f g = f
-    by false f g = g
-
-number_other : (i j : ℕ) → (i == j) ≡ false → i ≡ j → ⊥
-number_other i j e f = let no : false ≡ true = sym e ∙ (ap (λ k. i == k) (sym f) ∙ itself i) in cc
 
 -- one process is another
 set_by : (qs : List Process) (i j : ℕ) (q r : Process) → numbered qs j ≡ Some q → (b : Bool) → (i == j) ≡ b → numbered (set_numbered qs i r) j ≡ Some (if b then r else q)
@@ -265,9 +254,6 @@ joined_output w p seen (r ∷ rs) = by (reference_is_among seen r) (joined_outpu
     by false f g = g
 
 -- ---- all of it
-
-false_true : (b : Bool) → b ≡ false → b ≡ true → ⊥
-false_true b e f = let no : false ≡ true = sym e ∙ f in cc
 
 freed_kept : (p : ℕ) (frees withdraws : List ℕ) (r : Reference) → ((k : ℕ) → process_is_one_of withdraws k ≡ true → process_is_one_of frees k ≡ true) → (j : ℕ) (q : Process) →
     ProcessKept p (record { processes = frees; woken = woken_of r withdraws }) j q

@@ -31,9 +31,8 @@ use Rattle.algol_meaning.specs.Asks as asks
 use Rattle.algol_meaning.specs.Asks.{Ask, ask, resume, evaluated_of, located_of}
 use Rattle.algol_meaning.specs.Choice.{Choice, choice, choice_in, choice_of, nth_exists, is_subscripted, answered, goes, stops, opens, fails, home, here, read_of, resolved_of, indexed_at, element_read_at, stored, given_cells, with_new_instance, new_part, left_with, left_or_ended, left_choice, gone, gone_to, goes_to, task_of, with_started, next_process, starts, told_answer, did, does_with_first, all_followed, waits_for_any, wakes_or_waits, does_with, made_arrays}
 use Rattle.algol_meaning.specs.Run.{start, may_go, after_entry, run_from, run}
+use Rattle.algol_meaning.proofs.Cited.{joined_processes, leave_processes}
 use Rattle.algol_laws.proofs.Growing.{none_left}
-use Rattle.algol_laws.proofs.Releasing.{joined_processes}
-use Rattle.algol_laws.proofs.Bared.{leave_processes}
 use Rattle.algol_laws.specs.Heads.{EachPartActs}
 use Rattle.algol_laws.proofs.Heads.{acts_rest, is_answer, is_place, awaits_place_in, settle_acts, place_acts, evaluated_acts, located_acts, items_act, resume_acts}
 use Rattle.algol_laws.proofs.Standing.{is_place_purpose, gives_place, gives_still, leaves_answer, leaves_place, answers, places, asks_place, awaiting_asks, opens_plain, opened, Shaped, Around, Stands, AllStand, Target, all_numbered, all_more, all_at, all_able, all_woken, cut_stands}

@@ -1,5 +1,5 @@
 -- In each world of a run every part has a head that asks for an action, and every part around it waits for what the inner one gives.
-use Rattle.std.proofs.Common.{◌≡◌, refl, sym, subst, ap, ◌∙◌, ℕ, zero, suc, List, [], ◌∷◌, ◌++◌, Option, Bool, true, false}
+use Rattle.std.proofs.Common.{◌≡◌, refl, sym, subst, ℕ, zero, suc, List, [], ◌∷◌, ◌++◌, Option, Bool, true, false}
 use Rattle.std.specs.Prelude.{if◌then◌else◌, ◌==◌, slice_get, slice_set, ℤ}
 use Rattle.b67_list.specs.Numbered.{set_numbered}
 use Rattle.algol_tree.specs.declared.tree.Kind.{Kind}
@@ -56,10 +56,6 @@ aim_stays (rests.resolve n) = refl
 aim_stays (rests.place_index n ks i es) = refl
 aim_stays rests.inside_place = refl
 aim_stays (rests.place_subscript n ks h es) = hole_stays h
-
--- the answer with which a head leaves
-left_by : (a b : Ask) (x : Answer) → a ≡ b → is_leaving a ≡ false → b ≡ asks.leaves x → ⊥
-left_by a b x e f g = let same : is_leaving a ≡ true = ap is_leaving (e ∙ g) in cc
 
 abbrev pub is_place_purpose : Purpose → Bool
 is_place_purpose name_place = true

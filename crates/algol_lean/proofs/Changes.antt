@@ -11,19 +11,10 @@ use Rattle.algol_meaning.specs.Instances.{leave}
 use Rattle.algol_meaning.specs.Events.{event_at, change_event, set_event, reference_is_among, joined_all, list_in, forgotten, woken_by, withdrawn, all_withdrawn, released}
 use Rattle.algol_laws.specs.Reading.{Outline, outline, Bare, bare}
 use Rattle.algol_lean.specs.Lean.{IsLean, Lean}
-use Rattle.algol_lean.proofs.Lists.{all_lean_self, lean_numbered, lean_set, lean_then, outlines_lean}
+use Rattle.algol_lean.proofs.Lists.{all_lean_self, lean_numbered, lean_set, outlines_lean}
 
 pub world_self : (w : World) → Lean w w
 world_self w = record { instances = all_lean_self w.instances; processes = refl; output = refl; fault = refl }
-
-pub world_then : (u w v : World) → Lean u w → Lean w v → Lean u v
-world_then u w v l m =
-    record {
-      instances = lean_then u.instances w.instances v.instances l.instances m.instances;
-      processes = m.processes ∙ l.processes;
-      output = m.output ∙ l.output;
-      fault = m.fault ∙ l.fault;
-    }
 
 -- ---- what is the same
 

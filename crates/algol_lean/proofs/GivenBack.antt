@@ -1,13 +1,14 @@
 -- What an instance gives back that is left is missed by nobody.
 use Rattle.std.proofs.Common.{arith, ◌≡◌, refl, sym, ap, ◌∙◌, ℕ, zero, suc, ◌+◌, ◌-◌, ◌<◌, List, [], ◌∷◌, drop, length, Option, Some, None, slice_get, Bool, true, false, if◌then◌else◌}
 use Rattle.b67_list.specs.Numbered.{numbered}
+use Rattle.b67_list.proofs.Numbered.{numbered_set}
 use Rattle.algol_tree.specs.Sorts.{same_name}
+use Rattle.algol_tree.proofs.Names.{same_name_itself}
 use Rattle.algol_meaning.specs.Value.{Reference, Cell}
 use Rattle.algol_meaning.specs.World.{NamedCell, Instance, or_no_instance, instance_at, cells_with, set_cell, World}
 use Rattle.algol_instances.specs.Counting.{cell_is_array}
 use Rattle.algol_instances.specs.SeenInstance.{zero_cell}
 use Rattle.algol_laws.specs.Reading.{Outline}
-use Rattle.algol_laws.proofs.Cells.{numbered_set, same_name_refl}
 use Rattle.algol_perform.proofs.Newer.{drop_more, drop_none, below_length}
 use Rattle.algol_lean.specs.Lean.{Lean}
 use Rattle.algol_lean.specs.Shed.{world_without, without_arrays, shed_of, all_shed}
@@ -55,7 +56,7 @@ with_drop [] zero c x e = cc
 with_drop [] (suc k) c x e = cc
 with_drop (d ∷ cells) zero c x e =
     let is : c ≡ d = cc in
-    let named : same_name d.name c.name ≡ true = ap (λ (n : List ℕ). same_name n c.name) (ap (λ (y : NamedCell). y.name) (sym is)) ∙ same_name_refl c.name in
+    let named : same_name d.name c.name ≡ true = ap (λ (n : List ℕ). same_name n c.name) (ap (λ (y : NamedCell). y.name) (sym is)) ∙ same_name_itself c.name in
     ap (λ (b : Bool). drop 1 (if b then record d { cell = x } ∷ cells else d ∷ cells_with cells c.name x)) named
 with_drop (d ∷ cells) (suc k) c x e = by (same_name d.name c.name) (with_drop cells k c x e)
   where

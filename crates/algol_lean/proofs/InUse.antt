@@ -142,7 +142,7 @@ uses_none_left sc w p ok goes =
 
 -- ---- of sources
 
-run_is : (tree : PProgram) (h : List ℕ) → run tree h ≡ run_from (scopes_of tree) h (Some (start (scopes_of tree)))
+pub run_is : (tree : PProgram) (h : List ℕ) → run tree h ≡ run_from (scopes_of tree) h (Some (start (scopes_of tree)))
 unfolding run
 run_is tree h = refl
 

@@ -66,20 +66,6 @@ live_lean (x ∷ xs) (y ∷ ys) l =
 
 -- ---- lean beside lean
 
-pub lean_then : (xs ys zs : List Instance) → AreLean xs ys → AreLean ys zs → AreLean xs zs
-lean_then [] [] [] l m = tt
-lean_then [] [] (z ∷ zs) l m = m
-lean_then [] (y ∷ ys) zs l m = absurd l
-lean_then (x ∷ xs) [] zs l m = absurd l
-lean_then (x ∷ xs) (y ∷ ys) [] l m = m
-lean_then (x ∷ xs) (y ∷ ys) (z ∷ zs) l m = (
-  record {
-    alike = m.0.alike ∙ l.0.alike;
-    cells = λ e. m.0.cells (ap (λ (o : Outline). o.left) l.0.alike ∙ e) ∙ l.0.cells e;
-  },
-  lean_then xs ys zs l.1 m.1,
-)
-
 -- ---- one of them
 
 lean_put_right : (xs ys : List Instance) → AreLean xs ys → (k : ℕ) (y : Instance) → IsLean (or_no_instance (slice_get xs k)) y → AreLean xs (slice_set ys k y)

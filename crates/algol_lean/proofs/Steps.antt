@@ -1,11 +1,12 @@
 -- A step of a world that runs beside another one is a step of that.
-use Rattle.std.proofs.Common.{◌≡◌, refl, sym, ap, ◌∙◌, subst, ℕ, List, [], ◌∷◌, Option, Some, None, Bool, true, false, if◌then◌else◌}
+use Rattle.std.proofs.Common.{◌≡◌, refl, sym, ap, ◌∙◌, subst, ℕ, List, [], ◌∷◌, Option, Some, None, Bool, true, false}
 use Rattle.std.specs.Prelude.{Result, Ok, Err, IfOk}
 use Rattle.algol_tree.specs.Plain.{PProgram}
 use Rattle.algol_tree.specs.Scopes.{Scopes, scopes_of}
 use Rattle.algol_meaning.specs.World.{World, process_at}
 use Rattle.algol_meaning.specs.Choice.{Choice, choice}
-use Rattle.algol_meaning.specs.Run.{End, start, end_of, may_go, after_entry, run_from}
+use Rattle.algol_meaning.specs.Run.{End, start, end_of, may_go, run_from}
+use Rattle.algol_meaning.proofs.Cited.{entry_after}
 use Rattle.algol_front.proofs.Ordered.{IsSource}
 use Rattle.algol_world.specs.SeenActed.{acted_choice}
 use Rattle.algol_world.specs.declared.acted.Acted.{Acted}
@@ -29,10 +30,6 @@ pub source_beside : (tree : PProgram) → IsSource tree → RunsBeside (scopes_o
 source_beside tree is = record { lean = world_self (start (scopes_of tree)); in_use = source_keeps_in_use tree is }
 
 -- ---- what stays in use
-
-entry_after : (sc : Scopes) (w : World) (p : ℕ) → may_go w p ≡ true → after_entry sc w p ≡ Some ((choice sc w p).world)
-unfolding after_entry
-entry_after sc w p may = ap (λ (b : Bool). if b then Some ((choice sc w p).world) else None) may
 
 in_use_after : (sc : Scopes) (w : World) (p : ℕ) → may_go w p ≡ true → KeepsInUse sc w → KeepsInUse sc ((choice sc w p).world)
 in_use_after sc w p may keeps h after k e goes =

@@ -16,9 +16,10 @@ use Rattle.algol_tree.specs.declared.token.TokenKind.{TokenKind}
 use Rattle.algol_tree.specs.declared.token.TokenKind.TheVariants as kinds
 use Rattle.algol_tree.specs.Spelling.{is_letter, is_digit, is_blank, is_name, is_number, drawn}
 use Rattle.algol_tree.specs.Lexes.{Mode, Program, Comment, EndRemark, Front, Piece, Wrong, capitals, IsSpelled, IsLongest, token_of, front_of, remark_front, is_printable, string_or, string_front, BeginsNone, TokenStands, blank, percent, spelled, closed, unclosed, none, closing, commented, remarked, semicolon, period, passed}
-use Rattle.algol_lexer.proofs.LexSpelling.{Shape, letters, digits, mark, shape_of, is_letter-head, is_digit-head, length-shape-pos}
+use Rattle.b67_list.proofs.Truths.{not_true_is}
+use Rattle.algol_lexer.proofs.LexSpelling.{Shape, letters, digits, mark, shape_of, is_letter_head, is_digit_head, length_shape_pos}
 use Rattle.algol_lexer.proofs.LexFronts.{one_front}
-use Rattle.algol_lexer.proofs.LexCapitals.{is_digit-uppercase, length-capitals, capitals-append, longest_of, drawn_from}
+use Rattle.algol_lexer.proofs.LexCapitals.{is_digit_uppercase, length_capitals, capitals_append, longest_of, drawn_from}
 use Rattle.algol_lexer.proofs.LexStrings.{found_at, no_quote, same_inside, not_closed}
 
 -- two fronts of a text that are spelled are one
@@ -28,9 +29,9 @@ pub record IsOne (xs ys : List ℕ) (k j : TokenKind) : Type 0 where
 
 pub one_spelled : (xs ys a b : List ℕ) (k j : TokenKind) → xs ++ a ≡ ys ++ b → IsSpelled xs k → IsLongest xs a → IsSpelled ys j → IsLongest ys b → IsOne xs ys k j
 one_spelled xs ys a b k j e s g t h =
-    let big : capitals xs ++ capitals a ≡ capitals ys ++ capitals b = sym (capitals-append xs a) ∙ ap capitals e ∙ capitals-append ys b in
+    let big : capitals xs ++ capitals a ≡ capitals ys ++ capitals b = sym (capitals_append xs a) ∙ ap capitals e ∙ capitals_append ys b in
     let one = one_front (capitals xs) (capitals ys) (capitals a) (capitals b) k j big s (longest_of xs a g) t (longest_of ys b h) in
-    record { size = sym (length-capitals xs) ∙ ap length one.bytes ∙ length-capitals ys; kind = one.kind }
+    record { size = sym (length_capitals xs) ∙ ap length one.bytes ∙ length_capitals ys; kind = one.kind }
 
 -- by its first byte, a text in the program begins with a blank, a percent sign, a string, or something else
 data Sort : Type 0 where
@@ -161,18 +162,14 @@ sort_drawn : (s : Symbol) → sort_of (drawn s) ≡ Rest
 sort_drawn s = elim s as (λ v. sort_of (drawn v) ≡ Rest) [ symbols.Plus ↦ refl | _ ↦ refl ]
 
 sort_shape : (bytes after big : List ℕ) → capitals bytes ≡ big → Shape big → sort_of (bytes ++ after) ≡ Rest
-sort_shape [] after big e shape = let some = length-shape-pos shape in absurd (omega (arith, ap length e))
-sort_shape (b ∷ bytes) after big e (letters big' h) = sort_letter b (is_letter-head (to_ascii_uppercase b) (capitals bytes) (ap is_name e ∙ h))
-sort_shape (b ∷ bytes) after big e (digits big' h) = sort_digit b (sym (is_digit-uppercase b) ∙ is_digit-head (to_ascii_uppercase b) (capitals bytes) (ap is_number e ∙ h))
+sort_shape [] after big e shape = let some = length_shape_pos shape in absurd (omega (arith, ap length e))
+sort_shape (b ∷ bytes) after big e (letters big' h) = sort_letter b (is_letter_head (to_ascii_uppercase b) (capitals bytes) (ap is_name e ∙ h))
+sort_shape (b ∷ bytes) after big e (digits big' h) = sort_digit b (sym (is_digit_uppercase b) ∙ is_digit_head (to_ascii_uppercase b) (capitals bytes) (ap is_number e ∙ h))
 sort_shape (b ∷ bytes) after big e (mark s) = ap sort_of (drawn_from (b ∷ bytes) s e) ∙ sort_drawn s
-
-not_true : (b : Bool) → not b ≡ true → b ≡ false
-not_true true h = absurd cc
-not_true false h = refl
 
 sort_none : (b : ℕ) (after : List ℕ) → BeginsNone b after → sort_at b ≡ Rest
 sort_none b after n =
-    let h = not_true (is_blank b) n.blank in
+    let h = not_true_is (is_blank b) n.blank in
     let i = n.percent in
     let j = n.quote in
     let q : (b == 37) ≡ false = grind (arith, nat_tests) in
@@ -184,7 +181,7 @@ sign_letter b h = rw h
 
 sign_word : (bytes after : List ℕ) → is_name (capitals bytes) ≡ true → sign_of (bytes ++ after) ≡ Letter
 sign_word [] after h = absurd cc
-sign_word (b ∷ bytes) after h = sign_letter b (is_letter-head (to_ascii_uppercase b) (capitals bytes) h)
+sign_word (b ∷ bytes) after h = sign_letter b (is_letter_head (to_ascii_uppercase b) (capitals bytes) h)
 
 sign_other : (b : ℕ) → is_letter (to_ascii_uppercase b) ≡ false → b ≢ 59 → b ≢ 46 → sign_at b ≡ Other
 sign_other b h i j =
@@ -215,7 +212,7 @@ of_mode (commented b after h) = comment_other b h
 of_mode (remarked bytes after k s l h) = of_sign (bytes ++ after) (remark_front k (length bytes)) Letter (sign_word bytes after h) (whole_word (bytes ++ after) bytes after k refl s l)
 of_mode (semicolon after) = refl
 of_mode (period after) = refl
-of_mode (passed b after h i j) = of_sign (b ∷ after) (Piece 1 None EndRemark) Other (sign_other b (not_true (is_letter (to_ascii_uppercase b)) h) i j) refl
+of_mode (passed b after h i j) = of_sign (b ∷ after) (Piece 1 None EndRemark) Other (sign_other b (not_true_is (is_letter (to_ascii_uppercase b)) h) i j) refl
 
 -- One thing at most stands there.
 pub one_stands : {m : Mode} {text : List ℕ} {f g : Front} → TokenStands m text f → TokenStands m text g → f ≡ g
@@ -253,8 +250,8 @@ string_fits : (inside : List ℕ) (o : Option ℕ) (len : ℕ) → length inside
 string_fits inside None len within e = let some : 0 < length inside + 2 = omega arith in (some, within)
 string_fits inside (Some k) len within e = let f = found_at (λ b. not (is_printable b)) inside k e in omega (arith, f.within)
 
-spelled_some : (bytes : List ℕ) (k : TokenKind) → IsSpelled bytes k → 0 < length bytes
-spelled_some bytes k s = omega (arith, length-shape-pos (shape_of s), length-capitals bytes)
+pub spelled_some : (bytes : List ℕ) (k : TokenKind) → IsSpelled bytes k → 0 < length bytes
+spelled_some bytes k s = omega (arith, length_shape_pos (shape_of s), length_capitals bytes)
 
 pub stands_fits : {m : Mode} {text : List ℕ} {f : Front} → TokenStands m text f → FitsIn f (length text)
 stands_fits (blank b after h) = (omega arith, omega arith)

@@ -186,6 +186,6 @@ pub stands_there : {n : Mode} {text found wanted : List ℕ} {f g : Front} (at :
 stands_there {n} {wanted = wanted} {f = f} {g} at st e back same = subst (TokenStands n (drop at wanted)) e (subst (λ (l : List ℕ). TokenStands n l f) (back ∙ ap (drop at) same) st)
 
 -- a piece is one token at most
-pub length-token_at : (r : Record) (at size : ℕ) (kind : Option TokenKind) → length (token_at r at size kind) ≤ 1
-length-token_at r at size None = omega arith
-length-token_at r at size (Some k) = omega arith
+pub length_token_at : (r : Record) (at size : ℕ) (kind : Option TokenKind) → length (token_at r at size kind) ≤ 1
+length_token_at r at size None = omega arith
+length_token_at r at size (Some k) = omega arith

@@ -18,7 +18,7 @@ split_cons p (x ∷ xs) =
     let ih = split_cons p xs in
     elim (p x) as (λ v. (part : List ℕ) × (parts : List (List ℕ)) × (cond v ([] ∷ slice_split p xs) (onto_first x (slice_split p xs)) ≡ part ∷ parts)) [ true ↦ ([], slice_split p xs, refl) | false ↦ (x ∷ ih.0, ih.1, ap (onto_first x) ih.2) ]
 
-split_some : (p : ℕ → Bool) (xs : List ℕ) → 0 < length (slice_split p xs)
+pub split_some : (p : ℕ → Bool) (xs : List ℕ) → 0 < length (slice_split p xs)
 split_some p xs = let q = split_cons p xs in omega (arith, ap length q.2)
 
 records_cons : (line from : ℕ) (bytes : List ℕ) (parts : List (List ℕ)) → 0 < length parts → records_from line from (bytes ∷ parts) ≡ record { line = line; from = from; bytes = strip_carriage_return bytes } ∷ records_from (line + 1) (from + length bytes + 1) parts
@@ -61,8 +61,8 @@ end_of_cons : (r : Record) (rs : List Record) → 0 < length rs → end_of_text 
 end_of_cons r [] some = absurd (omega arith)
 end_of_cons r (q ∷ rs) some = refl
 
-pub end_of-next : (r : Record) (line from : ℕ) (rest : List ℕ) → end_of_text (r ∷ records_from line from (slice_split is_line_feed rest)) ≡ end_of_text (records_from line from (slice_split is_line_feed rest))
-end_of-next r line from rest = end_of_cons r (records_from line from (slice_split is_line_feed rest)) (records_some line from (slice_split is_line_feed rest) (split_some is_line_feed rest))
+pub end_of_next : (r : Record) (line from : ℕ) (rest : List ℕ) → end_of_text (r ∷ records_from line from (slice_split is_line_feed rest)) ≡ end_of_text (records_from line from (slice_split is_line_feed rest))
+end_of_next r line from rest = end_of_cons r (records_from line from (slice_split is_line_feed rest)) (records_some line from (slice_split is_line_feed rest) (split_some is_line_feed rest))
 
 -- the columns of a short record are the record
 pub columns_short : (bytes : List ℕ) → has_dollar bytes ≡ false → length bytes ≤ LAST_COLUMN → bytes ≡ columns_of bytes

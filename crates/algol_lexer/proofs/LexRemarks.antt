@@ -14,22 +14,22 @@ use Rattle.algol_lexer.proofs.LexWords.{reserved_or_not}
 use Rattle.algol_lexer.proofs.LexStands.{Run, spells_word, remarked_at}
 
 -- capitals of small letters, and small letters of capitals
-uppercase-lowercase : (b : ℕ) → to_ascii_uppercase (to_ascii_lowercase b) ≡ to_ascii_uppercase b
-uppercase-lowercase b = grind (arith, nat_tests)
+uppercase_lowercase : (b : ℕ) → to_ascii_uppercase (to_ascii_lowercase b) ≡ to_ascii_uppercase b
+uppercase_lowercase b = grind (arith, nat_tests)
 
-capitals-small : (bytes : List ℕ) → capitals (map to_ascii_lowercase bytes) ≡ capitals bytes
-capitals-small [] = refl
-capitals-small (b ∷ bytes) = let here = uppercase-lowercase b in let there = capitals-small bytes in cc
+capitals_small : (bytes : List ℕ) → capitals (map to_ascii_lowercase bytes) ≡ capitals bytes
+capitals_small [] = refl
+capitals_small (b ∷ bytes) = let here = uppercase_lowercase b in let there = capitals_small bytes in cc
 
-small-capitals : (bytes : List ℕ) → map to_ascii_lowercase (capitals bytes) ≡ map to_ascii_lowercase bytes
-small-capitals [] = refl
-small-capitals (b ∷ bytes) = let here = lowercase-uppercase b in let there = small-capitals bytes in cc
+small_capitals : (bytes : List ℕ) → map to_ascii_lowercase (capitals bytes) ≡ map to_ascii_lowercase bytes
+small_capitals [] = refl
+small_capitals (b ∷ bytes) = let here = lowercase-uppercase b in let there = small_capitals bytes in cc
 
 pub capitals_from : (bytes word : List ℕ) → capitals word ≡ word → map to_ascii_lowercase bytes ≡ map to_ascii_lowercase word → capitals bytes ≡ word
-capitals_from bytes word same e = sym (capitals-small bytes) ∙ ap capitals e ∙ capitals-small word ∙ same
+capitals_from bytes word same e = sym (capitals_small bytes) ∙ ap capitals e ∙ capitals_small word ∙ same
 
 pub small_from : (bytes word : List ℕ) → capitals bytes ≡ word → map to_ascii_lowercase bytes ≡ map to_ascii_lowercase word
-small_from bytes word e = sym (small-capitals bytes) ∙ ap (map to_ascii_lowercase) e
+small_from bytes word e = sym (small_capitals bytes) ∙ ap (map to_ascii_lowercase) e
 
 -- a word that ends a remark
 pub ending_at : (text : List ℕ) (n : ℕ) (w : Reserved) → Run text n → capitals (take n text) ≡ written w → remark_front (kinds.Word w) n ≡ word_front w n → TokenStands EndRemark text (word_front w n)

@@ -1,5 +1,5 @@
 -- Strings: the quote that closes one, and that no other does.
-use Rattle.std.proofs.Common.{◌≡◌, ℕ, ◌+◌, ◌<◌, ◌≤◌, Bool, true, false, not, cond, Some, None, List, [], ◌∷◌, ◌++◌, length, take, drop, get_or, refl, sym, ◌∙◌, ap, subst, arith, length-take-le}
+use Rattle.std.proofs.Common.{◌≡◌, ℕ, ◌+◌, ◌<◌, Bool, true, false, not, cond, Some, None, List, [], ◌∷◌, ◌++◌, length, take, drop, get_or, refl, sym, ◌∙◌, ap, subst, arith, length-take-le}
 use Rattle.std.specs.Prelude.{nat_lt, position}
 use Rattle.std.specs.List.{list_all, position_or_len}
 use Rattle.std.proofs.lemmas.Bool.{and_parts}
@@ -9,28 +9,19 @@ use Rattle.std.proofs.lemmas.List.Sums.{split_at_first, passes_at_first}
 use Rattle.algol_tree.specs.declared.refusal.Code.TheVariants.{BadCharacter, OpenString}
 use Rattle.algol_tree.specs.declared.token.TokenKind.TheVariants as kinds
 use Rattle.algol_tree.specs.Lexes.{Program, Wrong, is_quote, is_printable, token_of, string_or, string_front, TokenStands, closed, unclosed}
-use Rattle.algol_lexer.proofs.LexFound.{list_all-take_while}
+use Rattle.b67_list.proofs.Numbers.{cond_none, ltb_false, ltb_true}
+use Rattle.algol_lexer.proofs.LexFound.{list_all_take_while}
 
 -- a position is the place of the first that passes, and there is none where none does
 cond_some : (b : Bool) (n k : ℕ) → cond b (Some n) None ≡ Some k → (b ≡ true) × (n ≡ k)
 cond_some true n k e = (refl, cc)
 cond_some false n k e = absurd cc
 
-cond_none : (b : Bool) (n : ℕ) → cond b (Some n) None ≡ None → b ≡ false
-cond_none true n e = absurd cc
-cond_none false n e = refl
-
-lt_from : (m n : ℕ) → nat_lt m n ≡ true → m < n
-lt_from m n h = grind (arith, nat_tests)
-
-le_from : (m n : ℕ) → nat_lt m n ≡ false → n ≤ m
-le_from m n h = grind (arith, nat_tests)
-
 pub first_is : (p : ℕ → Bool) (xs : List ℕ) (k : ℕ) → position p xs ≡ Some k → (position_or_len p xs < length xs) × (position_or_len p xs ≡ k)
 first_is p xs k e =
     let n : ℕ = position_or_len p xs in
     let q = cond_some (nat_lt n (length xs)) n k e in
-    (lt_from n (length xs) q.0, q.1)
+    (ltb_true n (length xs) q.0, q.1)
 
 pub record Found (p : ℕ → Bool) (xs : List ℕ) (k : ℕ) : Type 0 where
   pub within : k < length xs
@@ -41,14 +32,14 @@ pub record Found (p : ℕ → Bool) (xs : List ℕ) (k : ℕ) : Type 0 where
 pub found_at : (p : ℕ → Bool) (xs : List ℕ) (k : ℕ) → position p xs ≡ Some k → Found p xs k
 found_at p xs k e =
     let q = first_is p xs k e in
-    subst (Found p xs) q.1 (record { within = q.0; split = split_at_first p xs 0 q.0; passes = passes_at_first p xs 0 q.0; before = list_all-take_while (λ b. not (p b)) xs })
+    subst (Found p xs) q.1 (record { within = q.0; split = split_at_first p xs 0 q.0; passes = passes_at_first p xs 0 q.0; before = list_all_take_while (λ b. not (p b)) xs })
 
 -- where none passes, all of the list does not
 pub none_passes : (p : ℕ → Bool) (xs : List ℕ) → position p xs ≡ None → list_all (λ b. not (p b)) xs ≡ true
 none_passes p xs e =
     let n : ℕ = position_or_len p xs in
-    let ge = le_from n (length xs) (cond_none (nat_lt n (length xs)) n e) in
-    ap (list_all (λ b. not (p b))) (sym (take_all n xs ge)) ∙ list_all-take_while (λ b. not (p b)) xs
+    let ge = ltb_false n (length xs) (cond_none (nat_lt n (length xs)) n e) in
+    ap (list_all (λ b. not (p b))) (sym (take_all n xs ge)) ∙ list_all_take_while (λ b. not (p b)) xs
 
 quote_is : (b : ℕ) → is_quote b ≡ true → b ≡ 34
 quote_is b h = grind (arith, nat_tests)

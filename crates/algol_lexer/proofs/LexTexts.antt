@@ -20,7 +20,7 @@ use Rattle.algol_tree.specs.Records.{Record, is_line_feed, records_from, records
 use Rattle.algol_tree.specs.Lexes.{Mode, Program, Front, Piece, Wrong, token_of, front_of, remark_front, string_or, is_printable, TokenStands, blank, percent, spelled, closed, unclosed, none, closing, commented, remarked, semicolon, period, passed, token_at, Gives, stays, piece, AreRead, all, next, Lexes, Fails, TextIsRefused, end_of_text}
 use Rattle.algol_lexer.specs.Outcome.{RecordReads}
 use Rattle.algol_lexer.proofs.LexReach.{are_read_more}
-use Rattle.algol_lexer.proofs.LexRecords.{records_next, records_last, end_of-next}
+use Rattle.algol_lexer.proofs.LexRecords.{records_next, records_last, end_of_next}
 
 -- The tokens so far, and what is left of the text: from that line and that place on.
 pub record Text (bytes rest : List ℕ) (line from : ℕ) (mode : Mode) (tokens : List Token) : Type 0 where
@@ -48,7 +48,7 @@ text_next bytes rest part line from k m n tokens after t e same there =
     let more : AreRead (records_of bytes) Program (tokens ++ reads.tokens) n left = are_read_more (text_at t (record_next line from rest k ∷ left) split) reads.read in
     record {
       read = subst (λ (ts : List Token). AreRead (records_of bytes) Program ts n left) (sym reads.appended) more;
-      ended = t.ended ∙ ap end_of_text split ∙ end_of-next (record_next line from rest k) (line + 1) (from + (k + 1)) (drop (k + 1) rest);
+      ended = t.ended ∙ ap end_of_text split ∙ end_of_next (record_next line from rest k) (line + 1) (from + (k + 1)) (drop (k + 1) rest);
     }
 
 pub text_refused : (bytes rest part : List ℕ) (line from k : ℕ) (m : Mode) (tokens : List Token) (spot : Spot) (code : Code) → Text bytes rest line from m tokens → Some k ≡ position is_line_feed rest → part ≡ strip_carriage_return (take k rest) → Fails (record_last line from part) m spot code → TextIsRefused bytes spot code
@@ -75,7 +75,7 @@ abbrev HasNoEnd : Front → Type 0
 HasNoEnd (Piece size kind mode) = IsNoEnd kind
 HasNoEnd (Wrong skipped code) = Unit {0}
 
-spells_no_end : {bytes : List ℕ} {k : TokenKind} → Spells bytes k → k ≡ kinds.End → ⊥
+pub spells_no_end : {bytes : List ℕ} {k : TokenKind} → Spells bytes k → k ≡ kinds.End → ⊥
 spells_no_end (word w) e = cc
 spells_no_end (name bytes h other) e = cc
 spells_no_end (number bytes h) e = cc
@@ -129,7 +129,7 @@ Passes ts = (t : Token) (more : List Token) → EndsOnce (t ∷ more) → EndsOn
 passes_none : Passes []
 passes_none t more h = h
 
-ends_at : (t : Token) (ts : List Token) → (t.kind ≡ kinds.End → ⊥) → EndsOnce ts → EndsOnce (t ∷ ts)
+pub ends_at : (t : Token) (ts : List Token) → (t.kind ≡ kinds.End → ⊥) → EndsOnce ts → EndsOnce (t ∷ ts)
 ends_at t [] other h = absurd h
 ends_at t (u ∷ us) other h = (other, h)
 

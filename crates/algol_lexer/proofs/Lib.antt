@@ -1,5 +1,5 @@
 mod LexWords
-mod LexSpelling
+pub mod LexSpelling
 mod LexFronts
 mod LexFound
 mod LexValue
@@ -7,8 +7,8 @@ mod LexCapitals
 mod LexStands
 mod LexStrings
 mod LexRemarks
-mod LexOnly
+pub mod LexOnly
 pub mod LexReach
-mod LexRecords
-mod LexTexts
+pub mod LexRecords
+pub mod LexTexts
 pub mod LexOrder

@@ -23,14 +23,15 @@ use Rattle.algol_tree.specs.Image as plain
 use Rattle.algol_tree.specs.Names.{specified}
 use Rattle.algol_tree.specs.Plain as tree
 use Rattle.algol_tree.specs.Plain.{PBody, PDecl, PDecls, PStmt, PStmts}
+use Rattle.algol_tree.proofs.Images.{body_is}
 use Rattle.algol_frames.specs.declared.scopes.Scopes.{Scopes}
 use Rattle.algol_paths.specs.Arrays.{Lows, lows_at, lows_declared, or_lows, stands_among}
 use Rattle.algol_scope.specs.Resolved.{AreOf, declaration_of}
-use Rattle.algol_scope.proofs.Bodies.{arrays_is, body_is, case_read, if_read}
+use Rattle.algol_scope.proofs.Bodies.{arrays_is, case_read, if_read}
 use Rattle.algol_told.specs.Parameters.{TellsDecl}
-use Rattle.algol_told.proofs.Declarations.{DeclsHave, InDecl, StmtHas, StmtsHave, in-program}
-use Rattle.algol_told.proofs.Parameters.{parameters-are-told}
-use Rattle.algol_told.proofs.Spots.{AreApart, apart-left, apart-right, ascending-apart}
+use Rattle.algol_told.proofs.Declarations.{DeclsHave, InDecl, StmtHas, StmtsHave, in_program}
+use Rattle.algol_told.proofs.Parameters.{parameters_are_told}
+use Rattle.algol_told.proofs.Spots.{AreApart, apart_left, apart_right, ascending_apart}
 use Rattle.algol_lows.specs.declared.bounds.Lows as kept
 use Rattle.algol_lows.specs.Lows.{LowsAdd, lows_begun, lows_in_body, lows_in_decl, lows_in_decls, lows_in_stmt, lows_in_stmts, lows_made, lows_meant, lows_named, lows_of_names, lows_of_specs, lows_told, own_lows, lows_found_under}
 use Rattle.algol_lows.proofs.Specifying.{lows_alike}
@@ -52,7 +53,7 @@ pub heading_apart : (h : Heading) → AreApart (spots_of_heading h) → AreApart
 heading_apart h a =
     let ps = spots_of_names h.params in
     let vs = spots_of_names h.values in
-    apart-left ps vs (apart-left (ps ++ vs) (spots_of_names (specified h)) a.1)
+    apart_left ps vs (apart_left (ps ++ vs) (spots_of_names (specified h)) a.1)
 
 -- ---- in blocks
 
@@ -76,14 +77,14 @@ module _ (scopes : Scopes) where
   pub declared_alike : (ds : PDecls) (spot : Spot) → DeclsHave (TellsDecl scopes) ds → AreApart (spots_of_decls ds) → lows_begun scopes ds spot ≡ lows_declared ds spot
   declared_alike tree.no_decls spot t h = refl
   declared_alike (tree.decls (tree.arrays kind ns pairs) ds) spot t h =
-      ap (or_lows (lows_made scopes (tree.arrays kind ns pairs) spot)) (declared_alike ds spot t.1.1 (apart-right (spots_of_decl (tree.arrays kind ns pairs)) (spots_of_decls ds) h))
+      ap (or_lows (lows_made scopes (tree.arrays kind ns pairs) spot)) (declared_alike ds spot t.1.1 (apart_right (spots_of_decl (tree.arrays kind ns pairs)) (spots_of_decls ds) h))
       ∙ sym (chosen (stands_among ns spot) (own_lows pairs) (lows_declared ds spot))
   declared_alike (tree.decls (tree.procedure g b) ds) spot t h =
       let own = spots_of_decl (tree.procedure g b) in
-      let params = heading_apart g (apart-left (spots_of_heading g) (spots_of_stmt b) (apart-left own (spots_of_decls ds) h)) in
-      ap (or_lows (lows_of_specs scopes g.specs spot)) (declared_alike ds spot t.1.1 (apart-right own (spots_of_decls ds) h))
+      let params = heading_apart g (apart_left (spots_of_heading g) (spots_of_stmt b) (apart_left own (spots_of_decls ds) h)) in
+      ap (or_lows (lows_of_specs scopes g.specs spot)) (declared_alike ds spot t.1.1 (apart_right own (spots_of_decls ds) h))
       ∙ ap (λ (o : Option Lows). or_lows o (lows_declared ds spot)) (lows_alike scopes g t.0 params spot)
-  declared_alike (tree.decls d ds) spot t h = declared_alike ds spot t.1.1 (apart-right (spots_of_decl d) (spots_of_decls ds) h)
+  declared_alike (tree.decls d ds) spot t h = declared_alike ds spot t.1.1 (apart_right (spots_of_decl d) (spots_of_decls ds) h)
 
   -- Of a statement, and of the body of a procedure: there the declarations of a BEGIN are those of the procedure's block.
   abbrev AreAlike : PStmt → List Spot → Spot → Type 0
@@ -108,8 +109,8 @@ module _ (scopes : Scopes) where
         let b = tree.body at ds ss in
         let inside = own_outer b outer in
         let o : List Block = own_block b outer in
-        let in_ds = apart-left (spots_of_decls ds) (spots_of_stmts ss) a.1 in
-        let in_ss = apart-right (spots_of_decls ds) (spots_of_stmts ss) a.1 in
+        let in_ds = apart_left (spots_of_decls ds) (spots_of_stmts ss) a.1 in
+        let in_ss = apart_right (spots_of_decls ds) (spots_of_stmts ss) a.1 in
         let begun : lows_begun scopes ds spot ≡ lows_declared ds spot = declared_alike ds spot t.0 in_ds in
         let xs : Option Lows = lows_in_decls scopes ds spot in
         let ys : Option Lows = lows_in_stmts scopes ss spot in
@@ -120,46 +121,46 @@ module _ (scopes : Scopes) where
           both o (blocks_in_decls ds inside ++ blocks_in_stmts ss inside) spot (lows_begun scopes ds spot) (or_lows xs ys) (begun ∙ own at ds ss outer spot) of_block,
           ap (λ (x : Option Lows). or_lows x (or_lows xs ys)) begun ∙ ap (or_lows (lows_declared ds spot)) of_body,
         )
-    in_stmt (tree.if_then c x) outer spot t a = let h = (in_stmt x outer spot t (apart-right (spots_of_expr c) (spots_of_stmt x) a)).0 in (h, h)
+    in_stmt (tree.if_then c x) outer spot t a = let h = (in_stmt x outer spot t (apart_right (spots_of_expr c) (spots_of_stmt x) a)).0 in (h, h)
     in_stmt (tree.if_else c x y) outer spot t a =
         let front = spots_of_expr c ++ spots_of_stmt x in
         let h =
         both (blocks_of x of_statement outer) (blocks_of y of_statement outer) spot (lows_in_stmt scopes x spot) (lows_in_stmt scopes y spot)
-        (in_stmt x outer spot t.0 (apart-right (spots_of_expr c) (spots_of_stmt x) (apart-left front (spots_of_stmt y) a))).0
-        (in_stmt y outer spot t.1 (apart-right front (spots_of_stmt y) a)).0 in
+        (in_stmt x outer spot t.0 (apart_right (spots_of_expr c) (spots_of_stmt x) (apart_left front (spots_of_stmt y) a))).0
+        (in_stmt y outer spot t.1 (apart_right front (spots_of_stmt y) a)).0 in
         (h, h)
-    in_stmt (tree.while c b) outer spot t a = let h = (in_stmt b outer spot t (apart-right (spots_of_expr c) (spots_of_stmt b) a)).0 in (h, h)
-    in_stmt (tree.until b c) outer spot t a = let h = (in_stmt b outer spot t (apart-left (spots_of_stmt b) (spots_of_expr c) a)).0 in (h, h)
+    in_stmt (tree.while c b) outer spot t a = let h = (in_stmt b outer spot t (apart_right (spots_of_expr c) (spots_of_stmt b) a)).0 in (h, h)
+    in_stmt (tree.until b c) outer spot t a = let h = (in_stmt b outer spot t (apart_left (spots_of_stmt b) (spots_of_expr c) a)).0 in (h, h)
     in_stmt (tree.for v x s l b) outer spot t a =
-        let h = (in_stmt b outer spot t (apart-right (spots_of_expr x ++ spots_of_expr s ++ spots_of_expr l) (spots_of_stmt b) a.1)).0 in
+        let h = (in_stmt b outer spot t (apart_right (spots_of_expr x ++ spots_of_expr s ++ spots_of_expr l) (spots_of_stmt b) a.1)).0 in
         (h, h)
-    in_stmt (tree.thru e b) outer spot t a = let h = (in_stmt b outer spot t (apart-right (spots_of_expr e) (spots_of_stmt b) a)).0 in (h, h)
-    in_stmt (tree.case e ss) outer spot t a = let h = in_stmts ss outer spot t (apart-right (spots_of_expr e) (spots_of_stmts ss) a) in (h, h)
+    in_stmt (tree.thru e b) outer spot t a = let h = (in_stmt b outer spot t (apart_right (spots_of_expr e) (spots_of_stmt b) a)).0 in (h, h)
+    in_stmt (tree.case e ss) outer spot t a = let h = in_stmts ss outer spot t (apart_right (spots_of_expr e) (spots_of_stmts ss) a) in (h, h)
     in_stmt s outer spot t a = (refl, refl)
 
     in_stmts : (ss : PStmts) (outer : List Spot) (spot : Spot) → StmtsTold ss → AreApart (spots_of_stmts ss) → lows_in_stmts scopes ss spot ≡ lows_at (blocks_in_stmts ss outer) spot
     in_stmts tree.no_stmts outer spot t a = refl
     in_stmts (tree.stmts s ss) outer spot t a =
         both (blocks_of s of_statement outer) (blocks_in_stmts ss outer) spot (lows_in_stmt scopes s spot) (lows_in_stmts scopes ss spot)
-        (in_stmt s outer spot t.0 (apart-left (spots_of_stmt s) (spots_of_stmts ss) a)).0 (in_stmts ss outer spot t.1 (apart-right (spots_of_stmt s) (spots_of_stmts ss) a))
+        (in_stmt s outer spot t.0 (apart_left (spots_of_stmt s) (spots_of_stmts ss) a)).0 (in_stmts ss outer spot t.1 (apart_right (spots_of_stmt s) (spots_of_stmts ss) a))
 
     in_decl : (d : PDecl) (outer : List Spot) (spot : Spot) → InDecl (TellsDecl scopes) d → AreApart (spots_of_decl d) → lows_in_decl scopes d spot ≡ lows_at (blocks_in_decl d outer) spot
-    in_decl (tree.procedure h s) outer spot t a = (in_stmt s (h.name.spot ∷ outer) spot t (apart-right (spots_of_heading h) (spots_of_stmt s) a)).1
+    in_decl (tree.procedure h s) outer spot t a = (in_stmt s (h.name.spot ∷ outer) spot t (apart_right (spots_of_heading h) (spots_of_stmt s) a)).1
     in_decl d outer spot t a = refl
 
     in_decls : (ds : PDecls) (outer : List Spot) (spot : Spot) → DeclsTold ds → AreApart (spots_of_decls ds) → lows_in_decls scopes ds spot ≡ lows_at (blocks_in_decls ds outer) spot
     in_decls tree.no_decls outer spot t a = refl
     in_decls (tree.decls d ds) outer spot t a =
         both (blocks_in_decl d outer) (blocks_in_decls ds outer) spot (lows_in_decl scopes d spot) (lows_in_decls scopes ds spot)
-        (in_decl d outer spot t.1.0 (apart-left (spots_of_decl d) (spots_of_decls ds) a)) (in_decls ds outer spot t.1.1 (apart-right (spots_of_decl d) (spots_of_decls ds) a))
+        (in_decl d outer spot t.1.0 (apart_left (spots_of_decl d) (spots_of_decls ds) a)) (in_decls ds outer spot t.1.1 (apart_right (spots_of_decl d) (spots_of_decls ds) a))
 
   pub in_parts : (at : Spot) (ds : PDecls) (ss : PStmts) (spot : Spot) → DeclsTold ds × StmtsTold ss → AreApart (spots_of_body (tree.body at ds ss)) →
       lows_in_body scopes (tree.body at ds ss) spot ≡ lows_at (blocks_of_program (tree.program (tree.body at ds ss))) spot
   unfolding blocks_of_program
   in_parts at ds ss spot t a =
       let inside = at ∷ [] in
-      let in_ds = apart-left (spots_of_decls ds) (spots_of_stmts ss) a.1 in
-      let in_ss = apart-right (spots_of_decls ds) (spots_of_stmts ss) a.1 in
+      let in_ds = apart_left (spots_of_decls ds) (spots_of_stmts ss) a.1 in
+      let in_ss = apart_right (spots_of_decls ds) (spots_of_stmts ss) a.1 in
       let xs : Option Lows = lows_in_decls scopes ds spot in
       let ys : Option Lows = lows_in_stmts scopes ss spot in
       ap (λ (x : Option Lows). or_lows x (or_lows xs ys)) (declared_alike ds spot t.0 in_ds)
@@ -170,8 +171,8 @@ in_body : (scopes : Scopes) (b : PBody) (spot : Spot) → AreOf (tree.program b)
     lows_in_body scopes b spot ≡ lows_at (blocks_of_program (tree.program b)) spot
 in_body scopes (tree.body at ds ss) spot are order =
     let p = tree.program (tree.body at ds ss) in
-    in_parts scopes at ds ss spot (in-program (TellsDecl scopes) (blocks_of_program p) at ds ss (parameters-are-told p scopes order are))
-    (ascending-apart (spots_of_body (tree.body at ds ss)) order)
+    in_parts scopes at ds ss spot (in_program (TellsDecl scopes) (blocks_of_program p) at ds ss (parameters_are_told p scopes order are))
+    (ascending_apart (spots_of_body (tree.body at ds ss)) order)
 
 -- ---- in a table
 

@@ -1,6 +1,5 @@
 -- The lower bounds of the parameters of a heading, as the scopes tell where its specifications name them, are those that it specifies.
-use Rattle.std.proofs.Common.{arith, ◌≡◌, ℕ, ◌==◌, ◌&&◌, ℤ, Bool, true, false, List, [], ◌∷◌, ◌++◌, Option, Some, None, refl, sym, ap, ◌∙◌, subst, if◌then◌else◌}
-use Rattle.std.proofs.lemmas.Bool.Decides.{nat_tests}
+use Rattle.std.proofs.Common.{◌≡◌, ℕ, ◌==◌, ◌&&◌, ℤ, Bool, true, false, List, [], ◌∷◌, ◌++◌, Option, Some, None, refl, sym, ap, ◌∙◌, subst, if◌then◌else◌}
 use Rattle.std.specs.List.{AllByRecursion, flat_map}
 use Rattle.algol_tree.specs.declared.token.Spot.{Spot}
 use Rattle.algol_tree.specs.declared.tree.Heading.{Heading}
@@ -12,23 +11,20 @@ use Rattle.algol_tree.specs.Ascending.{spots_of_names}
 use Rattle.algol_tree.specs.Blocks.{same_spot}
 use Rattle.algol_tree.specs.Names.{if_so, name_is_one_of, names_of_spec, repeated, result_names, specified}
 use Rattle.algol_tree.specs.Sorts.{is_named_in, same_name}
+use Rattle.algol_tree.proofs.Names.{same_name_is}
+use Rattle.algol_tree.proofs.Spots.{same_spot_is}
 use Rattle.algol_frames.specs.declared.scopes.Scopes.{Scopes}
 use Rattle.algol_paths.specs.Arrays.{Lows, lows_among, lows_in_shape, or_lows, shape_in}
 use Rattle.algol_scope.specs.Resolved.{declaration_of}
 use Rattle.algol_told.specs.Parameters.{TellsParameter, TellsParameters, parameter_place_in}
-use Rattle.algol_told.proofs.Known.{name-is, nor-first, spot-is, unseen}
-use Rattle.algol_told.proofs.Lists.{all-left, all-right, all-weaker, none-right}
-use Rattle.algol_told.proofs.Spots.{AreApart, IsApart, apart-turned}
+use Rattle.algol_told.proofs.Known.{nor_first, unseen}
+use Rattle.algol_told.proofs.Lists.{all_left, all_right, all_weaker}
+use Rattle.algol_told.proofs.Spots.{AreApart, IsApart, apart_turned}
+use Rattle.b67_list.proofs.Lists.{append_none_right}
+use Rattle.b67_list.proofs.Numbers.{number_turned}
 use Rattle.algol_lows.specs.Lows.{lows_meant, lows_of_names, lows_of_specs}
 
 -- ---- names, either way round
-
-number_turned : (x y : ℕ) → (x == y) ≡ (y == x)
-number_turned x y = by (x == y) refl
-  where
-    by : (b : Bool) → (x == y) ≡ b → b ≡ (y == x)
-    by true e = (let h : (y == x) ≡ true = grind (arith, nat_tests) in sym h)
-    by false e = (let h : (y == x) ≡ false = grind (arith, nat_tests) in sym h)
 
 turned : (xs ys : List ℕ) → same_name xs ys ≡ same_name ys xs
 turned [] [] = refl
@@ -39,15 +35,15 @@ turned (x ∷ xs) (y ∷ ys) = ap (λ (b : Bool). b && same_name xs ys) (number_
 -- ---- names that are not repeated
 
 rest_once : (seen : List (List ℕ)) (x : Named) (xs : List Named) → repeated seen (x ∷ xs) ≡ [] → repeated (x.name ∷ seen) xs ≡ []
-rest_once seen x xs r = none-right (if_so (name_is_one_of seen x.name) x.spot) (repeated (x.name ∷ seen) xs) r
+rest_once seen x xs r = append_none_right (if_so (name_is_one_of seen x.name) x.spot) (repeated (x.name ∷ seen) xs) r
 
 -- those after a name have another
 others_after : (seen : List (List ℕ)) (x : Named) (xs : List Named) (m : List ℕ) → repeated seen (x ∷ xs) ≡ [] → same_name x.name m ≡ true →
     AllByRecursion (λ (n : Named). same_name n.name m ≡ false) xs
 others_after seen x xs m r t =
-    all-weaker (λ (n : Named). name_is_one_of (x.name ∷ seen) n.name ≡ false) (λ (n : Named). same_name n.name m ≡ false)
+    all_weaker (λ (n : Named). name_is_one_of (x.name ∷ seen) n.name ≡ false) (λ (n : Named). same_name n.name m ≡ false)
     (λ n u.
-    turned n.name m ∙ ap (λ (z : List ℕ). same_name z n.name) (sym (name-is x.name m t)) ∙ nor-first (same_name x.name n.name) (name_is_one_of seen n.name) u) xs
+    turned n.name m ∙ ap (λ (z : List ℕ). same_name z n.name) (sym (same_name_is x.name m t)) ∙ nor_first (same_name x.name n.name) (name_is_one_of seen n.name) u) xs
     (unseen (x.name ∷ seen) xs (rest_once seen x xs r))
 
 later_others : (seen : List (List ℕ)) (xs ys : List Named) (m : List ℕ) → repeated seen (xs ++ ys) ≡ [] → is_named_in xs m ≡ true →
@@ -57,7 +53,7 @@ later_others seen (x ∷ xs) ys m r e = by (same_name x.name m) refl e (later_ot
   where
     by : (b : Bool) → same_name x.name m ≡ b → (if b then true else is_named_in xs m) ≡ true →
         (is_named_in xs m ≡ true → AllByRecursion (λ (n : Named). same_name n.name m ≡ false) ys) → AllByRecursion (λ (n : Named). same_name n.name m ≡ false) ys
-    by true t q on = all-right (λ (n : Named). same_name n.name m ≡ false) xs ys (others_after seen x (xs ++ ys) m r t)
+    by true t q on = all_right (λ (n : Named). same_name n.name m ≡ false) xs ys (others_after seen x (xs ++ ys) m r t)
     by false t q on = on q
 
 once_back : (seen : List (List ℕ)) (xs ys : List Named) → repeated seen (xs ++ ys) ≡ [] → (more : List (List ℕ)) × (repeated more ys ≡ [])
@@ -94,7 +90,7 @@ elsewhere (p ∷ ps) name spot at h e = by (same_name p.name name) e (elsewhere 
 
 far : (s spot : Spot) (ps : List Named) → s ≡ spot → AllByRecursion (IsApart s) (spots_of_names ps) → AllByRecursion (λ (n : Named). IsApart n.spot spot) ps
 far s spot [] e h = tt
-far s spot (p ∷ ps) e h = (subst (IsApart p.spot) e (apart-turned s p.spot h.0), far s spot ps e h.1)
+far s spot (p ∷ ps) e h = (subst (IsApart p.spot) e (apart_turned s p.spot h.0), far s spot ps e h.1)
 
 -- Where the parameter of a name stands there, the parameter there has this name.
 meets : (seen : List (List ℕ)) (ps : List Named) (name : List ℕ) (spot at : Spot) → repeated seen ps ≡ [] → AreApart (spots_of_names ps) → parameter_place_in ps name ≡ Some at →
@@ -111,7 +107,7 @@ meets seen (p ∷ ps) name spot at r a e = by (same_name p.name name) refl (same
         (parameter_place_in ps name ≡ Some at → same_spot at spot ≡ is_called (name_at ps spot) name) → same_spot at spot ≡ is_called (if c then Some p.name else name_at ps spot) name
     by true n true s q later = here true s q ∙ sym n
     by true n false s q later = here false s q ∙ sym (nowhere_called ps name spot (others_after seen p ps name r n))
-    by false n true s q later = elsewhere ps name spot at (far p.spot spot ps (spot-is p.spot spot s) a.0) q ∙ sym n
+    by false n true s q later = elsewhere ps name spot at (far p.spot spot ps (same_spot_is p.spot spot s) a.0) q ∙ sym n
     by false n false s q later = later q
 
 -- ---- what a heading specifies of a place
@@ -164,11 +160,11 @@ module _ (s : Scopes) (h : Heading) (spot : Spot) where
 
   specs_away : (xs : List Spec) → AllByRecursion IsAway (flat_map names_of_spec xs) → lows_of_specs s xs spot ≡ None
   specs_away [] a = refl
-  specs_away (spec.Simple kind ns ∷ xs) a = specs_away xs (all-right IsAway ns (flat_map names_of_spec xs) a)
-  specs_away (spec.Events ns ∷ xs) a = specs_away xs (all-right IsAway ns (flat_map names_of_spec xs) a)
+  specs_away (spec.Simple kind ns ∷ xs) a = specs_away xs (all_right IsAway ns (flat_map names_of_spec xs) a)
+  specs_away (spec.Events ns ∷ xs) a = specs_away xs (all_right IsAway ns (flat_map names_of_spec xs) a)
   specs_away (spec.Arrays kind ns lows ∷ xs) a =
-      ap (λ (o : Option Lows). or_lows o (lows_of_specs s xs spot)) (names_away ns lows (all-left IsAway ns (flat_map names_of_spec xs) a))
-      ∙ specs_away xs (all-right IsAway ns (flat_map names_of_spec xs) a)
+      ap (λ (o : Option Lows). or_lows o (lows_of_specs s xs spot)) (names_away ns lows (all_left IsAway ns (flat_map names_of_spec xs) a))
+      ∙ specs_away xs (all_right IsAway ns (flat_map names_of_spec xs) a)
 
   -- ---- names of which one is
 
@@ -200,21 +196,21 @@ module _ (s : Scopes) (h : Heading) (spot : Spot) where
         lows_of_specs s xs spot ≡ lows_in_shape (shape_in xs m)
     specs_met seen [] t r = refl
     specs_met seen (spec.Simple kind ns ∷ xs) t r =
-        let more = all-right (TellsParameter s h) ns (flat_map names_of_spec xs) t in
+        let more = all_right (TellsParameter s h) ns (flat_map names_of_spec xs) t in
         let once = once_back seen ns (flat_map names_of_spec xs) r in
         named_so seen ns xs more r (specs_met once.0 xs more once.1)
     specs_met seen (spec.Events ns ∷ xs) t r =
-        let more = all-right (TellsParameter s h) ns (flat_map names_of_spec xs) t in
+        let more = all_right (TellsParameter s h) ns (flat_map names_of_spec xs) t in
         let once = once_back seen ns (flat_map names_of_spec xs) r in
         named_so seen ns xs more r (specs_met once.0 xs more once.1)
     specs_met seen (spec.Arrays kind ns lows ∷ xs) t r =
-        let more = all-right (TellsParameter s h) ns (flat_map names_of_spec xs) t in
+        let more = all_right (TellsParameter s h) ns (flat_map names_of_spec xs) t in
         let once = once_back seen ns (flat_map names_of_spec xs) r in
-        ap (λ (o : Option Lows). or_lows o (lows_of_specs s xs spot)) (names_met ns lows (all-left (TellsParameter s h) ns (flat_map names_of_spec xs) t))
+        ap (λ (o : Option Lows). or_lows o (lows_of_specs s xs spot)) (names_met ns lows (all_left (TellsParameter s h) ns (flat_map names_of_spec xs) t))
         ∙ arrays_so kind lows xs (is_named_in ns m) (specs_met once.0 xs more once.1)
 
   by_name : (m : Option (List ℕ)) → TellsParameters s h → Agrees m → lows_of_specs s h.specs spot ≡ lows_called h.specs m
-  by_name None t g = specs_away h.specs (all-weaker (TellsParameter s h) IsAway (λ n k lows. one_lows None g n lows k) (specified h) t.mentioned)
+  by_name None t g = specs_away h.specs (all_weaker (TellsParameter s h) IsAway (λ n k lows. one_lows None g n lows k) (specified h) t.mentioned)
   by_name (Some m) t g = specs_met m g [] h.specs t.mentioned t.mentioned_once
 
 pub lows_alike : (s : Scopes) (h : Heading) → TellsParameters s h → AreApart (spots_of_names h.params) → (spot : Spot) → lows_of_specs s h.specs spot ≡ lows_among h.specs h.params spot

@@ -1,16 +1,14 @@
 -- What is found in one part of a tree, and then what is found in another.
-use Rattle.std.proofs.Common.{rules, arith, suc, ◌≡◌, ℕ, ◌+◌, ◌<◌, List, ◌∷◌, [], ◌++◌, Option, length, drop, get_or, drop-cons, Result, OnOk, sym, ap, ◌∙◌, append_assoc, refl}
+use Rattle.std.proofs.Common.{arith, suc, ◌≡◌, ℕ, ◌+◌, ◌<◌, List, ◌∷◌, [], ◌++◌, Option, length, drop, get_or, drop-cons, Result, OnOk, sym, ap, ◌∙◌, append_assoc, refl}
 use Rattle.std.proofs.lemmas.Result.{on_ok_weaker}
-use Rattle.algol_tree.specs.declared.tree.Call as calls
 use Rattle.algol_tree.specs.declared.tree.Call.{Call}
 use Rattle.algol_tree.specs.declared.tree.Expr.{Expr}
 use Rattle.algol_tree.specs.declared.tree.Named.{Named}
 use Rattle.algol_tree.specs.declared.tree.Pair.{Pair}
-use Rattle.algol_tree.specs.declared.tree.Variable as variables
 use Rattle.algol_tree.specs.declared.tree.Variable.{Variable}
 use Rattle.algol_tree.specs.Image.{call, expr, exprs, pairs, variable}
-use Rattle.algol_tree.specs.Plain as tree
 use Rattle.algol_tree.specs.Plain.{PExpr}
+use Rattle.algol_tree.proofs.Images.{call_is, variable_is}
 use Rattle.algol_names.specs.declared.found.Found.{Found}
 use Rattle.algol_names.specs.Found.{at, at_left, in_assignment, in_call, in_expr, in_exprs, in_pairs, in_process, in_task}
 
@@ -30,12 +28,6 @@ list_step {A} {B} found one each xs i x old new all h e m w =
     ∙ ap (λ (z : List B). old ++ z) (sym (each x (drop (i + 1) xs))) ∙ ap (λ (ys : List A). old ++ found ys) (sym split) ∙ w
 
 -- ---- statements
-
-variable_is : (v : Variable) → variable v ≡ tree.subscripted v.name (exprs v.subs)
-variable_is v = search (rules, variables.the_lemmas)
-
-call_is : (c : Call) → call c ≡ tree.called c.name (exprs c.actuals)
-call_is c = search (rules, calls.the_lemmas)
 
 pub assigned : (v : Variable) (subs : List Expr) (e : PExpr) (k : ℕ) → subs ≡ v.subs → in_assignment (variable v) e k ≡ (at_left v.name k ∷ in_exprs (exprs subs) k) ++ in_expr e k
 assigned v subs e k s = ap (λ p. in_assignment p e k) (variable_is v) ∙ ap (λ (es : List Expr). at_left v.name k ∷ (in_exprs (exprs es) k ++ in_expr e k)) (sym s)

@@ -15,7 +15,7 @@ use Rattle.algol_tree.specs.Sorts as sort
 use Rattle.algol_tree.specs.Sorts.{Declared, Sort, class_in, declare, declared_parameters, is_named_in, simple_sort, sort_in}
 use Rattle.algol_tree.specs.Surroundings.{Surroundings, inside_procedure, knowing, knowing_all, made_known}
 use Rattle.algol_sorts.specs.Sorts.{sort_by, sort_of}
-use Rattle.algol_told.proofs.Lists.{all-append}
+use Rattle.algol_told.proofs.Lists.{all_append}
 use Rattle.algol_paths.specs.Arrays.{Lows, lows_in_shape, shape_in}
 use Rattle.algol_lows.proofs.Formals.{FormalsFound}
 use Rattle.algol_cells.specs.SeenScope.{sort_as}
@@ -73,7 +73,7 @@ module _ (lows : Spot → Option Lows) (blocks : List Block) where
   made_clear (tree.procedure h s) ds a = (refl, tt)
 
   pub knowing_clear : (d : PDecl) (ds : PDecls) (a : Surroundings) → AllClear a → AllClear (knowing blocks d ds a)
-  knowing_clear d ds a h = all-append IsClear (made_known blocks d ds a) a.known (made_clear d ds a) h
+  knowing_clear d ds a h = all_append IsClear (made_known blocks d ds a) a.known (made_clear d ds a) h
 
   pub all_clear : (ds : PDecls) (a : Surroundings) → AllClear a → AllClear (knowing_all blocks ds a)
   all_clear tree.no_decls a h = h
@@ -90,5 +90,5 @@ module _ (lows : Spot → Option Lows) (blocks : List Block) where
 
   pub inside_clear : (h : Heading) (s : PStmt) (later : PDecls) (a : Surroundings) → FormalsFound lows (tree.procedure h s) later → AllClear a → AllClear (inside_procedure blocks h a)
   inside_clear h s later a f k =
-      all-append IsClear (declared_parameters (number_at blocks h.name.spot) (a.depth + 1) h) a.known
+      all_append IsClear (declared_parameters (number_at blocks h.name.spot) (a.depth + 1) h) a.known
       (parameters_clear (number_at blocks h.name.spot) (a.depth + 1) h h.params f) k

@@ -5,31 +5,17 @@ use Rattle.std.specs.Borrow.{Bor}
 use Rattle.std.specs.BTreeMap.{BTreeMap, get}
 use Rattle.algol_tree.specs.declared.token.Spot.{Spot}
 use Rattle.algol_tree.specs.contracts.token.SpotOrd.TheImpl.{ghosts}
-use Rattle.algol_tree.specs.Blocks.{same_spot}
 use Rattle.algol_tree.specs.Scopes as scoping
 use Rattle.algol_tree.specs.Sorts as plain
+use Rattle.algol_tree.proofs.Spots.{same_spot_itself}
 use Rattle.algol_sorts.specs.declared.sort.Sort.{Sort}
 use Rattle.algol_sorts.specs.declared.sort.Sort.TheVariants as sort
-use Rattle.algol_told.proofs.Known.{spot-is}
-use Rattle.algol_told.proofs.Spots.{spot-itself}
 use Rattle.algol_cells.specs.Shown.{shown_cell}
 use Rattle.algol_cells.specs.SeenScope.{lows_under, or_no_lows, sort_as, used}
 use Rattle.algol_cells.specs.declared.scope.Use.{Use}
-use Rattle.algol_names.specs.Kept.{found_if, is_formal_at, is_used_among, lows_from, lows_there, lows_used}
+use Rattle.algol_names.specs.Kept.{found_if, is_formal_at, is_used_among, lows_from, lows_used}
 
 -- ---- one use
-
--- what is found under the same place is the same
-there_same : (b : Bool) (lows found : List ℤ) → (b ≡ true → lows ≡ found) → found_if b lows ≡ found_if b found
-there_same true lows found e = ap (λ (z : List ℤ). Some z) (e refl)
-there_same false lows found e = refl
-
-pub used_there : (kept : Spot → List ℤ) (at spot : Spot) (lows : List ℤ) → lows ≡ kept at → lows_there at lows spot ≡ found_if (same_spot at spot) (kept spot)
-used_there kept at spot lows e = there_same (same_spot at spot) lows (kept spot) (λ h. e ∙ ap kept (spot-is at spot h))
-
-pub none_added : (o : Option (List ℤ)) (lows : List ℤ) → o ≡ option_or o (found_if false lows)
-none_added None lows = refl
-none_added (Some x) lows = refl
 
 -- ---- one more use
 
@@ -75,7 +61,7 @@ module _ (kept found : Spot → List ℤ) (number : Spot → ℕ) where
     where
       by : (s : Sort) → (is_formal_at s u.declared u.declared ≡ true → found u.declared ≡ kept u.declared) →
           sort_as s (found u.declared) (number u.declared) ≡ sort_as s (kept u.declared) (number u.declared)
-      by (sort.FormalArray kind subscripts) h = ap (λ z. sort_as (sort.FormalArray kind subscripts) z (number u.declared)) (h (spot-itself u.declared))
+      by (sort.FormalArray kind subscripts) h = ap (λ z. sort_as (sort.FormalArray kind subscripts) z (number u.declared)) (h (same_spot_itself u.declared))
       by (sort.Variable kind) h = refl
       by (sort.ByName kind) h = refl
       by (sort.Array kind subscripts) h = refl

@@ -16,14 +16,15 @@ use Rattle.algol_tree.specs.Sorts.{Declared}
 use Rattle.algol_tree.specs.Surroundings.{Surroundings, formals_at, inside_procedure, knowing, knowing_all, outermost}
 use Rattle.algol_tree.specs.Sites.{Site, actual_part_by, first_formal, here, here_stmt, inside_actuals, inside_decl, inside_expr, inside_list, inside_stmt, name_part, other_formals, sites, sites_in_body, sites_in_decls, sites_in_pairs, sites_in_stmts, has_decls, wants_value}
 use Rattle.algol_tree.proofs.Alone.{named_alone}
+use Rattle.algol_tree.proofs.Trees.{found_known, same_depth}
 use Rattle.algol_sorts.specs.Sorts.{sort_of}
 use Rattle.algol_frames.specs.declared.scopes.Declared as laid
 use Rattle.algol_frames.specs.declared.scopes.Scopes.{Scopes}
 use Rattle.algol_scope.specs.Resolved.{AreOf, declaration_of}
 use Rattle.algol_told.specs.Telling.{ScopesTell, TellsAll, TellsAt}
 use Rattle.algol_told.proofs.Declarations.{DeclsHave, InDecl, StmtHas, StmtsHave}
-use Rattle.algol_told.proofs.Lists.{all-left, all-right}
-use Rattle.algol_told.proofs.Told.{all-found, each-part-is-told}
+use Rattle.algol_told.proofs.Lists.{all_left, all_right}
+use Rattle.algol_told.proofs.Told.{each_part_is_told}
 use Rattle.algol_paths.specs.Arrays.{Lows, lows_at}
 use Rattle.algol_lows.proofs.Formals.{FormalsFound, formals_found}
 use Rattle.algol_names.specs.declared.found.Found.{Found}
@@ -36,11 +37,6 @@ use Rattle.algol_names.proofs.Parts.{assign_uses, body_uses, call_uses, called_u
 
 next : (n : ℕ) → suc n ≡ n + 1
 next n = omega arith
-
--- the place after declarations has as many blocks around it
-depth_all : (blocks : List Block) (ds : PDecls) (a : Surroundings) → (knowing_all blocks ds a).depth ≡ a.depth
-depth_all blocks tree.no_decls a = refl
-depth_all blocks (tree.decls d ds) a = depth_all blocks ds (knowing blocks d ds a)
 
 module _ (s : Scopes) (lows : Spot → Option Lows) (blocks : List Block) where
   abbrev list_at : Spot → List ℤ
@@ -72,7 +68,7 @@ module _ (s : Scopes) (lows : Spot → Option Lows) (blocks : List Block) where
       let x = t.told in
       let level : x.level ≡ d.depth + 2 = t.level in
       let up : suc a.depth - (x.level - 1) ≡ a.depth - d.depth = omega (arith, level) in
-      let clear : sort_as (sort_of d) (list_at d.spot) (number_at blocks d.spot) ≡ d.sort = all-found (IsClear lows blocks) a.known n.name d c t.found in
+      let clear : sort_as (sort_of d) (list_at d.spot) (number_at blocks d.spot) ≡ d.sort = found_known (IsClear lows blocks) a.known n.name d c t.found in
       ap (use_by (at n (suc a.depth))) t.answers
       ∙ ap (λ (z : ℕ). made n.spot z (suc a.depth - (x.level - 1)) (sort_as x.sort (list_at x.spot) (number_at blocks x.spot))) t.block
       ∙ ap (λ (z : ℕ). made n.spot d.block z (sort_as x.sort (list_at x.spot) (number_at blocks x.spot))) up
@@ -109,10 +105,10 @@ module _ (s : Scopes) (lows : Spot → Option Lows) (blocks : List Block) where
   actual_at None e f a is t = t
 
   left_told : (xs ys : List Site) → TellsAll s (xs ++ ys) → TellsAll s xs
-  left_told xs ys t = all-left (TellsAt s) xs ys t
+  left_told xs ys t = all_left (TellsAt s) xs ys t
 
   right_told : (xs ys : List Site) → TellsAll s (xs ++ ys) → TellsAll s ys
-  right_told xs ys t = all-right (TellsAt s) xs ys t
+  right_told xs ys t = all_right (TellsAt s) xs ys t
 
   abbrev events_uses : List EventName → Surroundings → List scoping.Use
   events_uses es a = flat_map (scoping.used a) (map (λ (e : EventName). e.name) es)
@@ -195,7 +191,7 @@ module _ (s : Scopes) (lows : Spot → Option Lows) (blocks : List Block) where
   body_joined spot ds xs a d x =
       let k = suc a.depth in
       joined (in_decls ds k) (in_stmts xs k) (decls_uses blocks ds a a.known) (stmts_uses blocks xs (has_decls ds) (knowing_all blocks ds a)) d
-      (ap (λ (z : ℕ). all_told (in_stmts xs (suc z))) (sym (depth_all blocks ds a)) ∙ x)
+      (ap (λ (z : ℕ). all_told (in_stmts xs (suc z))) (sym (same_depth blocks ds a)) ∙ x)
       ∙ sym (whole_uses blocks spot ds xs a)
 
   -- .. seen from the place of the BEGIN
@@ -365,4 +361,4 @@ program_meant s (tree.body spot ds xs) kept same are order =
     let p = tree.program (tree.body spot ds xs) in
     let blocks = blocks_of_program p in
     same_told s (λ at. listed (lows_at blocks at)) kept blocks same (in_body (tree.body spot ds xs) 1)
-    ∙ body_meant s (lows_at blocks) blocks spot ds xs outermost tt (formals_found s spot ds xs are order) (each-part-is-told p s order are)
+    ∙ body_meant s (lows_at blocks) blocks spot ds xs outermost tt (formals_found s spot ds xs are order) (each_part_is_told p s order are)

@@ -1,19 +1,17 @@
 -- The plain trees of blocks.
-use Rattle.std.proofs.Common.{rules, arith, suc, ◌≡◌, ℕ, Bool, true, false, not, List, [], ◌∷◌, length, None, refl, ap, sym, ◌∙◌}
+use Rattle.std.proofs.Common.{arith, suc, ◌≡◌, ℕ, true, false, not, List, [], ◌∷◌, length, None, refl, ap, sym, ◌∙◌}
 use Rattle.std.specs.Prelude.{◌==◌}
 use Rattle.algol_tree.specs.declared.token.Spot.{Spot}
-use Rattle.algol_tree.specs.declared.tree.Body as bodies
 use Rattle.algol_tree.specs.declared.tree.Body.{Body}
 use Rattle.algol_tree.specs.declared.tree.Decl.{Decl}
 use Rattle.algol_tree.specs.Plain as tree
 use Rattle.algol_tree.specs.Plain.{PBody}
 use Rattle.algol_tree.specs.Blocks as plain
 use Rattle.algol_tree.specs.Sites.{has_decls}
+use Rattle.algol_tree.proofs.Images.{body_is}
 use Rattle.algol_meaning.specs.SeenTree.{body, decls, stmts}
+use Rattle.b67_list.proofs.Truths.{not_true}
 use Rattle.algol_names.specs.Blocks.{is_block, block_of_begin}
-
-pub body_is : (b : Body) → body b ≡ tree.body b.spot (decls b.decls) (stmts b.stmts)
-body_is b = search (rules, bodies.the_lemmas)
 
 pub begun : (b : Body) (outer : List Spot) →
     record { spot = b.spot; outer = outer; name = []; parameters = []; result = None; decls = decls b.decls; stmts = stmts b.stmts }
@@ -23,12 +21,8 @@ begun b outer = ap (λ p. block_of_begin p outer) (sym (body_is b))
 not_empty : (n : ℕ) → (suc n == 0) ≡ true → ⊥
 not_empty n h = grind arith
 
-refuted : (b : Bool) → (b ≡ true → ⊥) → b ≡ false
-refuted true h = absurd (h refl)
-refuted false h = refl
-
 more : (n : ℕ) → (suc n == 0) ≡ false
-more n = refuted (suc n == 0) (not_empty n)
+more n = not_true (suc n == 0) (not_empty n)
 
 some_declared : (ds : List Decl) → not (length ds == 0) ≡ has_decls (decls ds)
 some_declared [] = refl

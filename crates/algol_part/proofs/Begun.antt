@@ -31,7 +31,8 @@ use Rattle.algol_part.specs.Openings.{behind_word, behind_verb}
 use Rattle.algol_tree.specs.DueDecl.{names_in_list}
 use Rattle.algol_part.specs.declared.declaration.Listed.{Listed}
 use Rattle.algol_part.specs.Phrases.{element_in, lists_names, listed_by, listed_in}
-use Rattle.algol_expr.proofs.Reading.{Takes, taken, read-at}
+use Rattle.algol_expr.proofs.Reading.{Takes, taken, read_at}
+use Rattle.algol_expr.proofs.Starts.{name_is}
 use Rattle.algol_part.proofs.Chains.{here, too_deep_here}
 use Rattle.algol_part.proofs.Specs.{names_there}
 
@@ -106,13 +107,9 @@ pub empty_here : (d : ℕ) {tokens : List Token} {t : Token} {ts : List Token} �
 empty_here d {t = t} at_ e f = subst (λ name. Empties name starts.Nothing (turn_statement d t.spot t.kind)) e
     (subst (λ s. Empties (name_in t.kind) s (turn_statement d t.spot t.kind)) f (empty_turns d t.spot t.kind))
 
-name_of : (k : TokenKind) (name : List ℕ) → name_in k ≡ Some name → k ≡ kinds.Name name
-name_of (kinds.Name n) name e = let same : n ≡ name = cc in ap kinds.Name same
-name_of k name e = cc
-
 pub name_begins : (d : ℕ) {tokens : List Token} {t : Token} {ts : List Token} → tokens ≡ t ∷ ts → (n : Named) (name : List ℕ) → name_in t.kind ≡ Some name →
     (n.name ≡ name) × (n.spot ≡ t.spot) → reading_turn (statement d) t.spot t.kind ≡ takes plain (behind_start n d ∷ [])
-name_begins d {t = t} at_ n name e same = ap (turn_statement d t.spot) (name_of t.kind name e ∙ ap kinds.Name (sym same.0))
+name_begins d {t = t} at_ n name e same = ap (turn_statement d t.spot) (name_is t.kind name e ∙ ap kinds.Name (sym same.0))
     ∙ ap (λ spot. takes plain (behind_start (record { name = n.name; spot = spot }) d ∷ [])) (sym same.1)
 
 -- after a name
@@ -341,7 +338,7 @@ module _ (d : ℕ) (t : Token) (ts : List Token) where
       (due_ : List Due) (vs : List Value) → read 0 (t ∷ ts) (procedure_body d ∷ due_) vs ≡ read 0 (t ∷ ts) (statement (d + 1) ∷ (behind_body ++ due_)) vs
   entered_read _ _ (flat ds) p q o due_ vs = opens_step 0 d t ts (procedure_body d) (ds ++ behind_body) due_ vs q (inl o)
       ∙ ap (λ x. read 0 ts x vs) (append_assoc ds behind_body due_) ∙ sym (takes_step 0 t ts (statement (d + 1)) ds (behind_body ++ due_) vs p)
-  entered_read _ _ (nested ds) p q o due_ vs = read-at 0 outside (procedure_body d) (statement (d + 1)) behind_body due_ t ts vs
+  entered_read _ _ (nested ds) p q o due_ vs = read_at 0 outside (procedure_body d) (statement (d + 1)) behind_body due_ t ts vs
       (subst Takes (sym p) (taken (nests (d + 1)) ds)) (q ∙ ap (λ x. followed x behind_body) (sym p))
 
   entered_deep : (x y : Turn) → Enters d x y → reading_turn (procedure_body d) t.spot t.kind ≡ y → MOST_NESTING ≤ d → (us : List Value) (e : Refusal) → e ≡ At t.spot codes.TooDeep →
@@ -349,9 +346,6 @@ module _ (d : ℕ) (t : Token) (ts : List Token) where
   entered_deep _ _ (flat ds) q o us e r = too_deep_here (here t ts) d (procedure_body d) (ds ++ behind_body) {ds = []} {us = us} e q o r
   entered_deep _ _ (nested ds) q o us e r =
       let deeper : MOST_NESTING ≤ d + 1 = omega (arith, o) in too_deep_here (here t ts) (d + 1) (procedure_body d) (ds ++ behind_body) {ds = []} {us = us} e q deeper r
-
-  empty_body : reading_turn (procedure_body d) t.spot (kinds.Symbol symbols.Semicolon) ≡ takes (nests d) (make (value_put (stmt trees.empty)) ∷ make with_body ∷ [])
-  empty_body = refl
 
   semicolon_read : is_symbol symbols.Semicolon t.kind ≡ true → d < MOST_NESTING → (due_ : List Due) (vs : List Value) →
       read 0 (t ∷ ts) (procedure_body d ∷ due_) vs ≡ read 0 (t ∷ ts) (statement (d + 1) ∷ (behind_body ++ due_)) vs

@@ -1,6 +1,5 @@
 -- How far a reader of statements has come, and where it is refused.
-use Rattle.std.proofs.Common.{◌≡◌, ◌≤◌, ◌<◌, ℕ, true, List, [], ◌∷◌, ◌++◌, length, Result, Ok, Err, IfErr, refl, sym, subst, ap, ◌∙◌, inl, append_assoc, arith}
-use Rattle.std.specs.Result.{IsErrAnd}
+use Rattle.std.proofs.Common.{◌≡◌, ◌≤◌, ℕ, true, List, [], ◌∷◌, ◌++◌, length, refl, sym, subst, ap, ◌∙◌, append_assoc, arith}
 use Rattle.algol_tree.specs.declared.TheConstants.{MOST_NESTING}
 use Rattle.algol_tree.specs.declared.token.Token.{Token}
 use Rattle.algol_tree.specs.declared.token.TokenKind.TheVariants as kinds
@@ -13,14 +12,10 @@ use Rattle.algol_tree.specs.Ended.{EndsOnce}
 use Rattle.algol_tree.specs.Tokens.{is_word, is_symbol}
 use Rattle.algol_tree.specs.Due.{Value, Make, Due, make, plain, nests, takes, makes, skips, refuses}
 use Rattle.algol_tree.specs.Reading.{reading_turn, read}
-use Rattle.algol_tree.specs.Found.{IsRest, ReaderFinds, Completes, Lists, Fails, ReaderRefuses}
-use Rattle.algol_expr.proofs.Turns.{takes_step, opens_step, skips_step, makes_step, make_step, fails_step, deep_step, word_from, symbol_from}
+use Rattle.algol_tree.specs.Found.{IsRest, Lists, Fails, ReaderRefuses}
+use Rattle.algol_expr.proofs.Turns.{takes_step, skips_step, makes_step, make_step, fails_step, deep_step, word_from, symbol_from}
 use Rattle.algol_expr.proofs.Chain.{Reaches, behind_first}
 use Rattle.algol_part.specs.Brings.{Brings, PartAdds, Skips}
-
--- nothing is read yet
-pub begun : (from : List Due) (us : List Value) (tokens : List Token) → Reaches from us tokens from us tokens
-begun from us tokens = record { run = λ due vs. refl }
 
 -- how a chain goes on
 
@@ -73,11 +68,6 @@ module _ {from : List Due} {us : List Value} {tokens : List Token} {part : List 
 pub no_memory : {from : List Due} {us : List Value} {tokens : List Token} {e : Refusal} → e ≡ NoMemory → ReaderRefuses from us tokens e
 no_memory q = record { left = 0; fails = record { run = λ spot code at due vs. let no : NoMemory ≡ At spot code = sym q ∙ at in cc } }
 
--- the error of a `?` is the callee's
-pub left_as : {T E : Type 0} (r : Result T E) (P : E → Type 0) (e : E) → IsErrAnd r (λ x. x ≡ e) → P e → IfErr r P
-left_as (Ok x) P e p h = absurd p
-left_as (Err y) P e p h = subst P (sym p) h
-
 -- what is found at the end of a chain
 
 module _ {from : List Due} {tokens rest : List Token} {v w : Value} where
@@ -90,13 +80,6 @@ module _ {from : List Due} {tokens rest : List Token} {v w : Value} where
 pub added : {A : Type 0} {from : List Due} {all : A → Value} {tokens rest : List Token} {more : A → A} →
     ((xs : A) → Reaches from (all xs ∷ []) tokens [] (all (more xs) ∷ []) rest) → IsRest tokens rest → PartAdds from all tokens more rest
 added r b = record { run = λ xs due vs. (r xs).run due vs; behind = b }
-
-module _ {s : Due} {tokens rest : List Token} {v w : Value} where
-  pub found : Reaches (s ∷ []) [] tokens [] (v ∷ []) rest → w ≡ v → IsRest tokens rest → ReaderFinds s tokens w rest
-  found r is b = subst (λ x. ReaderFinds s tokens x rest) (sym is) (record { run = λ due vs. r.run due vs; behind = b })
-
-  pub completed : Reaches (s ∷ []) [] tokens [] (v ∷ []) rest → w ≡ v → EndsOnce rest → length rest ≤ length tokens → Completes s tokens w rest
-  completed r is b c = subst (λ x. Completes s tokens x rest) (sym is) (record { run = λ due vs. r.run due vs; ended = b; no_longer = c })
 
 -- the first token
 
@@ -125,13 +108,6 @@ module _ {tokens : List Token} {t : Token} {ts : List Token} (is : tokens ≡ t 
 
   pub takes_all : (s : Due) (es : List Due) {us : List Value} → reading_turn s t.spot t.kind ≡ takes plain es → Reaches (s ∷ []) us tokens es us ts
   takes_all s es {us = us} q = record { run = λ due vs. ap (λ x. read 0 x (s ∷ due) (us ++ vs)) is ∙ takes_step 0 t ts s es due (us ++ vs) q }
-
-  pub opens_it : (d : ℕ) (s : Due) (es : List Due) {ds : List Due} {us : List Value} → reading_turn s t.spot t.kind ≡ takes (nests d) es → d < MOST_NESTING →
-      Reaches (s ∷ ds) us tokens (es ++ ds) us ts
-  opens_it d s es {ds = ds} {us = us} q o = record {
-    run = λ due vs. ap (λ x. read 0 x (s ∷ (ds ++ due)) (us ++ vs)) is ∙ opens_step 0 d t ts s es (ds ++ due) (us ++ vs) q (inl o)
-        ∙ ap (λ x. read 0 ts x (us ++ vs)) (sym (append_assoc es ds due));
-  }
 
   pub too_deep_here : (d : ℕ) (s : Due) (es : List Due) {ds : List Due} {us : List Value} (e : Refusal) → reading_turn s t.spot t.kind ≡ takes (nests d) es → MOST_NESTING ≤ d →
       e ≡ At t.spot codes.TooDeep → ReaderRefuses (s ∷ ds) us tokens e
@@ -174,12 +150,6 @@ valued {from = from} {us = us} {tokens = tokens} {ds = ds} {ws = ws} {rest = res
 pub then : {from : List Due} {us : List Value} {tokens : List Token} {ds es : List Due} {ws xs : List Value} {mid rest : List Token} →
     Reaches from us tokens ds ws mid → Reaches ds ws mid es xs rest → Reaches from us tokens es xs rest
 then r p = record { run = λ due vs. r.run due vs ∙ p.run due vs }
-
-pub made : {m : Make} {ds : List Due} {ws xs : List Value} {rest : List Token} → ((vs : List Value) → m (ws ++ vs) ≡ xs ++ vs) → Reaches (make m ∷ ds) ws rest ds xs rest
-made {m = m} {ds = ds} {ws = ws} {rest = rest} e = record { run = λ due vs. make_step 0 rest m (ds ++ due) (ws ++ vs) ∙ ap (read 0 rest (ds ++ due)) (e vs) }
-
-pub rest_of : {tokens mid rest : List Token} → IsRest tokens mid → IsRest mid rest → IsRest tokens rest
-rest_of p q = record { ended = q.ended; shorter = omega (arith, p.shorter, q.shorter) }
 
 pub rest_within : {tokens mid rest : List Token} → length mid ≤ length tokens → IsRest mid rest → IsRest tokens rest
 rest_within p q = record { ended = q.ended; shorter = omega (arith, p, q.shorter) }

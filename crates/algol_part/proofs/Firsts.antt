@@ -19,6 +19,7 @@ use Rattle.algol_tree.specs.DueDecl.{name_added, low_added, names_in_list, turn_
 use Rattle.algol_tree.specs.DueStmt.{wholes_in, pair_in, segment_in, phrase_added, with_task}
 use Rattle.algol_tree.specs.Reading.{reading_turn}
 use Rattle.algol_expr.proofs.Turns.{symbol_from}
+use Rattle.algol_expr.proofs.Starts.{name_is as name_of}
 
 -- what is due by a test of the token
 
@@ -149,10 +150,6 @@ pub angle_off : {tokens : List Token} {t : Token} {ts : List Token} → tokens �
 angle_off {t = t} at_ e = ap (λ b. either b (takes plain (make (value_put (place t.spot)) ∷ [])) refuses) e
 
 -- names
-
-pub name_of : (k : TokenKind) (name : List ℕ) → name_in k ≡ Some name → k ≡ kinds.Name name
-name_of (kinds.Name n) name e = let same : n ≡ name = cc in ap kinds.Name same
-name_of k name e = cc
 
 pub named_takes : {tokens : List Token} {t : Token} {ts : List Token} → tokens ≡ t ∷ ts → (n : Named) (name : List ℕ) → name_in t.kind ≡ Some name → (n.name ≡ name) × (n.spot ≡ t.spot) →
     reading_turn named t.spot t.kind ≡ takes plain (make (value_put (name_is n)) ∷ [])

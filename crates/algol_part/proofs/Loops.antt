@@ -4,16 +4,15 @@ use Rattle.std.proofs.lemmas.List.{map-append}
 use Rattle.algol_tree.specs.declared.token.Token.{Token}
 use Rattle.algol_tree.specs.declared.refusal.Refusal.{Refusal}
 use Rattle.algol_tree.specs.declared.token.Symbol.{Symbol}
-use Rattle.algol_tree.specs.declared.tree.Expr.{Expr}
 use Rattle.algol_tree.specs.Ended.{EndsOnce}
 use Rattle.algol_tree.specs.Tokens.{is_symbol}
 use Rattle.algol_tree.specs.declared.tree.Stmt.{Stmt}
 use Rattle.algol_tree.specs.declared.tree.Decl.{Decl}
-use Rattle.algol_tree.specs.Plain.{PExpr, more, PPair, PStmt, stmts, PDecl, decls}
+use Rattle.algol_tree.specs.Plain.{PExpr, PPair, PStmt, stmts, PDecl, decls}
 use Rattle.algol_tree.specs.DueStmt.{stmt_behind, decl_behind}
 use Rattle.algol_tree.specs.DueExpr.{behind}
 use Rattle.algol_tree.specs.Image as image
-use Rattle.algol_tree.specs.Image.{listed_exprs, listed_decls, exprs as plain_list}
+use Rattle.algol_tree.specs.Image.{listed_decls}
 use Rattle.algol_tree.specs.Due.{Value, Due, plain, takes, skips}
 use Rattle.algol_tree.specs.Found.{IsRest, Extends, ReaderRefuses}
 use Rattle.algol_tree.specs.Reading.{reading_turn, read}
@@ -47,32 +46,21 @@ module _ {from : List Due} {us : List Value} {tokens : List Token} {loop : List 
   pub whole_list : IsRest tokens after
   whole_list = record { ended = b.ended; shorter = omega (arith, g.no_longer, b.shorter) }
 
-  pub shorter_on : (sign : Symbol) → is_symbol sign t.kind ≡ true → IsRest rest ts
-  shorter_on sign e = let c = behind_symbol is sign b.ended e in record { ended = c.ended; shorter = omega (arith, b.shorter, c.shorter) }
-
--- one expression more
-listed-snoc : (es : List PExpr) (e : PExpr) → behind (listed_exprs es) e ≡ listed_exprs (es ++ e ∷ [])
-listed-snoc [] e = refl
-listed-snoc (x ∷ es) e = ap (more x) (listed-snoc es e)
-
-pub one_more : (found new : List Expr) (item : Expr) → new ≡ found ++ item ∷ [] → behind (plain_list found) (image.expr item) ≡ plain_list new
-one_more found new item e = listed-snoc (map image.expr found) (image.expr item) ∙ ap listed_exprs (sym (map-append image.expr found (item ∷ []))) ∙ ap plain_list (sym e)
-
 -- one declaration more
-decls-snoc : (ds : List PDecl) (d : PDecl) → decl_behind (listed_decls ds) d ≡ listed_decls (ds ++ d ∷ [])
-decls-snoc [] d = refl
-decls-snoc (x ∷ ds) d = ap (decls x) (decls-snoc ds d)
+decls_snoc : (ds : List PDecl) (d : PDecl) → decl_behind (listed_decls ds) d ≡ listed_decls (ds ++ d ∷ [])
+decls_snoc [] d = refl
+decls_snoc (x ∷ ds) d = ap (decls x) (decls_snoc ds d)
 
 pub one_decl : (found new : List Decl) (d : Decl) → new ≡ found ++ d ∷ [] → decl_behind (image.decls found) (image.decl d) ≡ image.decls new
-one_decl found new d e = decls-snoc (map image.decl found) (image.decl d) ∙ ap listed_decls (sym (map-append image.decl found (d ∷ []))) ∙ ap image.decls (sym e)
+one_decl found new d e = decls_snoc (map image.decl found) (image.decl d) ∙ ap listed_decls (sym (map-append image.decl found (d ∷ []))) ∙ ap image.decls (sym e)
 
 -- one statement more
-stmts-snoc : (ss : List PStmt) (s : PStmt) → stmt_behind (image.statements_listed ss) s ≡ image.statements_listed (ss ++ s ∷ [])
-stmts-snoc [] s = refl
-stmts-snoc (x ∷ ss) s = ap (stmts x) (stmts-snoc ss s)
+stmts_snoc : (ss : List PStmt) (s : PStmt) → stmt_behind (image.statements_listed ss) s ≡ image.statements_listed (ss ++ s ∷ [])
+stmts_snoc [] s = refl
+stmts_snoc (x ∷ ss) s = ap (stmts x) (stmts_snoc ss s)
 
 pub one_stmt : (found new : List Stmt) (s : Stmt) → new ≡ found ++ s ∷ [] → stmt_behind (image.stmts found) (image.stmt s) ≡ image.stmts new
-one_stmt found new s e = stmts-snoc (map image.stmt found) (image.stmt s) ∙ ap image.statements_listed (sym (map-append image.stmt found (s ∷ []))) ∙ ap image.stmts (sym e)
+one_stmt found new s e = stmts_snoc (map image.stmt found) (image.stmt s) ∙ ap image.statements_listed (sym (map-append image.stmt found (s ∷ []))) ∙ ap image.stmts (sym e)
 
 -- one item, and two
 pub one_item : {A : Type 0} (start first : List A) (x : A) → start ≡ [] → first ≡ start ++ x ∷ [] → first ≡ x ∷ []

@@ -13,7 +13,7 @@ use Rattle.algol_tree.specs.Image as image
 use Rattle.algol_tree.specs.Due.{Value, Due, stmt}
 use Rattle.algol_tree.specs.Reading.{read}
 use Rattle.algol_tree.specs.Found.{IsRest, Completes, ReaderRefuses}
-use Rattle.algol_expr.proofs.Chain.{Reaches}
+use Rattle.algol_expr.proofs.Chain.{Reaches, if_err}
 use Rattle.algol_part.specs.Brings.{Brings}
 use Rattle.algol_part.specs.Openings.{behind_word, behind_verb, led, leading, led_by, still_due, so_far, ReaderComesTo, StatementOpens, PartBegins}
 use Rattle.algol_part.specs.declared.start.Opener.{Opener}
@@ -23,7 +23,6 @@ use Rattle.algol_part.specs.declared.opening.Lead.TheVariants as leads
 use Rattle.algol_part.specs.declared.opening.Opening.{Opening}
 use Rattle.algol_part.specs.declared.opening.Beginning.{Beginning}
 use Rattle.algol_part.specs.declared.opening.Beginning.TheVariants as beginnings
-use Rattle.algol_part.proofs.Tails.{if_err}
 
 -- what is come to at the end of a chain
 pub comes : {from : List Due} {us : List Value} {tokens : List Token} {ds : List Due} {ws : List Value} {rest : List Token} → Reaches from us tokens ds ws rest → EndsOnce rest →
@@ -41,10 +40,6 @@ coming {part = part} {ds = ds} {ws = ws} {xs = xs} {mid = mid} {rest = rest} r p
 pub ending : {from : List Due} {us : List Value} {tokens : List Token} {v w : Value} {rest : List Token} → Reaches from us tokens [] (v ∷ []) rest → w ≡ v → EndsOnce rest →
     length rest ≤ length tokens → ReaderComesTo from us tokens [] (w ∷ []) rest
 ending {from = from} {us = us} {tokens = tokens} {rest = rest} r is e n = subst (λ x. ReaderComesTo from us tokens [] (x ∷ []) rest) (sym is) (comes r e n)
-
-pub opening_with : {s : Due} {tokens : List Token} {ds es : List Due} {ws : List Value} {mid rest : List Token} → Reaches (s ∷ []) [] tokens ds [] mid → IsRest tokens mid →
-    ReaderComesTo ds [] mid es ws rest → ReaderComesTo (s ∷ []) [] tokens es ws rest
-opening_with r b f = record { run = λ due vs. r.run due vs ∙ f.run due vs; ended = f.ended; no_longer = omega (arith, b.shorter, f.no_longer) }
 
 pub opens_so : {s : Due} {tokens : List Token} {ds : List Due} {opening : Opening} {i : ℕ} {mid rest : List Token} → Reaches (s ∷ []) [] tokens ds [] mid → IsRest tokens mid →
     ReaderComesTo ds [] mid (still_due opening i) (so_far opening) rest → StatementOpens s tokens opening i rest
@@ -71,13 +66,6 @@ comes_behind is spot i {tokens = tokens} {ds = ds} {ws = ws} {rest = rest} f = s
 pub refuses_behind : {o p : Opener} → o ≡ p → (spot : Spot) (i : ℕ) {tokens : List Token} {e : Refusal} → ReaderRefuses (behind_word p spot i) [] tokens e →
     ReaderRefuses (behind_word o spot i) [] tokens e
 refuses_behind is spot i {tokens = tokens} {e = e} f = subst (λ w. ReaderRefuses (behind_word w spot i) [] tokens e) (sym is) f
-
-pub ends_opened : {o p : Opening} → o ≡ p → (i : ℕ) {tokens : List Token} {v : Value} {rest : List Token} → ReaderComesTo (still_due p i) (so_far p) tokens [] (v ∷ []) rest →
-    ReaderComesTo (still_due o i) (so_far o) tokens [] (v ∷ []) rest
-ends_opened is i {tokens = tokens} {v = v} {rest = rest} f = subst (λ x. ReaderComesTo (still_due x i) (so_far x) tokens [] (v ∷ []) rest) (sym is) f
-
-pub refuses_opened : {o p : Opening} → o ≡ p → (i : ℕ) {tokens : List Token} {e : Refusal} → ReaderRefuses (still_due p i) (so_far p) tokens e → ReaderRefuses (still_due o i) (so_far o) tokens e
-refuses_opened is i {tokens = tokens} {e = e} f = subst (λ x. ReaderRefuses (still_due x i) (so_far x) tokens e) (sym is) f
 
 -- what a lead makes of a statement
 pub led_is_made : (l : Lead) (s : PStmt) (vs : List Value) → leading l (stmt s ∷ (led_by l ++ vs)) ≡ stmt (led l s) ∷ vs

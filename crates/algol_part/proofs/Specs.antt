@@ -15,7 +15,7 @@ use Rattle.algol_tree.specs.Due.{Value, value_put, names, Due, make, symbol, nam
 use Rattle.algol_tree.specs.DueDecl.{headed, name_added, names_in_list, rows_specified, spec_simple, spec_events, turn_spec, turn_spec_typed}
 use Rattle.algol_tree.specs.Reading.{reading_turn, outside, read}
 use Rattle.algol_expr.proofs.Turns.{word_from, symbol_from, takes_step, make_step, fails_step}
-use Rattle.algol_expr.proofs.Reading.{Takes, taken, refused_, read-at}
+use Rattle.algol_expr.proofs.Reading.{Takes, taken, refused_, read_at}
 use Rattle.algol_expr.proofs.Chain.{Reaches}
 use Rattle.algol_part.specs.Phrases.{closed_names, parameters_in_phrase, is_type, begins_spec}
 
@@ -82,7 +82,7 @@ specs_off {t = t} at_ e = ap (λ x. followed x (due.specs_more ∷ []))
 pub specs_on : {us : List Value} {tokens : List Token} {t : Token} {ts : List Token} → tokens ≡ t ∷ ts → begins_spec t.kind ≡ true →
     Reaches (due.specs_more ∷ []) us tokens (due.spec ∷ due.specs_more ∷ []) us tokens
 specs_on {us = us} {t = t} {ts = ts} at_ e = subst (λ x. Reaches (due.specs_more ∷ []) us x (due.spec ∷ due.specs_more ∷ []) us x) (sym at_) (record {
-  run = λ due_ vs. read-at 0 outside due.specs_more due.spec (due.specs_more ∷ []) due_ t ts (us ++ vs)
+  run = λ due_ vs. read_at 0 outside due.specs_more due.spec (due.specs_more ∷ []) due_ t ts (us ++ vs)
       (tests_take spec_of_events (rows_specified types.Number) (type_of t.kind) (is_word reserved.Event t.kind) (is_word reserved.Array t.kind))
       (ap (λ x. followed x (due.specs_more ∷ []))
       (some_test spec_of_events (rows_specified types.Number) (type_of t.kind) (is_word reserved.Event t.kind) (is_word reserved.Array t.kind) skips refuses e));

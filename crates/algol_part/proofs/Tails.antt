@@ -1,5 +1,5 @@
 -- Results that are returned as they are.
-use Rattle.std.proofs.Common.{◌≡◌, ℕ, Bool, sym, subst, List, [], ◌∷◌, ◌++◌, Result, Ok, Err, IfErr, arith}
+use Rattle.std.proofs.Common.{◌≡◌, ℕ, Bool, sym, subst, List, [], ◌∷◌, ◌++◌, Result, IfErr, arith}
 use Rattle.std.specs.Result.{IfOk}
 use Rattle.std.proofs.lemmas.Result.{IfOk-weaker}
 use Rattle.algol_tree.specs.declared.token.Token.{Token}
@@ -7,23 +7,15 @@ use Rattle.algol_tree.specs.declared.refusal.Refusal.{Refusal}
 use Rattle.algol_tree.specs.declared.tree.Named.{Named}
 use Rattle.algol_tree.specs.Due.{Value, names, Due, declarations}
 use Rattle.algol_tree.specs.Found.{IsRest, ReaderFinds, Completes, Lists, ReaderRefuses}
-use Rattle.algol_expr.proofs.Chain.{Reaches, via, completing}
+use Rattle.algol_expr.proofs.Chain.{Reaches, via, if_err, rest_of}
 use Rattle.algol_part.specs.Brings.{Brings, PartAdds, AddsNone, Repeats}
 use Rattle.algol_part.specs.Phrases.{names_of_phrase}
-use Rattle.algol_part.proofs.Chains.{bringing, listing, adding, refusing_all, refusing_on, rest_of}
-
-pub if_err : {T E : Type 0} (r : Result T E) (P Q : E → Type 0) → ((e : E) → P e → Q e) → IfErr r P → IfErr r Q
-if_err (Ok x) P Q f h = h
-if_err (Err e) P Q f h = f e h
+use Rattle.algol_part.proofs.Chains.{bringing, listing, adding, refusing_all, refusing_on}
 
 module _ {T : Type 0} (r : Result T Refusal) (tree : T → Value) (end : T → List Token) {tokens mid : List Token} (b : IsRest tokens mid) where
   pub completes_by : {s : Due} (part : List Due) → Reaches (s ∷ []) [] tokens (part ++ []) [] mid → IfOk r (λ x. Brings part mid (tree x) (end x)) →
       IfOk r (λ x. Completes s tokens (tree x) (end x))
   completes_by part a h = IfOk-weaker r _ _ (λ x f. record { run = (bringing a f).run; ended = f.behind.ended; no_longer = omega (arith, b.shorter, f.behind.shorter) }) h
-
-  pub brings_by : {from : List Due} (part : List Due) → Reaches from [] tokens (part ++ []) [] mid → IfOk r (λ x. Brings part mid (tree x) (end x)) →
-      IfOk r (λ x. Brings from tokens (tree x) (end x))
-  brings_by part a h = IfOk-weaker r _ _ (λ x f. record { run = (bringing a f).run; behind = rest_of b f.behind }) h
 
   pub brings_listed : {from : List Due} (part : List Due) {left : Value} → Reaches from [] tokens (part ++ []) (left ∷ []) mid →
       IfOk r (λ x. Lists part mid left (tree x) (end x)) → IfOk r (λ x. Brings from tokens (tree x) (end x))
@@ -31,10 +23,6 @@ module _ {T : Type 0} (r : Result T Refusal) (tree : T → Value) (end : T → L
 
   pub finds_by : {s p : Due} → Reaches (s ∷ []) [] tokens (p ∷ []) [] mid → IfOk r (λ x. ReaderFinds p mid (tree x) (end x)) → IfOk r (λ x. ReaderFinds s tokens (tree x) (end x))
   finds_by a h = IfOk-weaker r _ _ (λ x f. record { run = (via a f).run; behind = rest_of b f.behind }) h
-
-  pub completes_found : {s p : Due} → Reaches (s ∷ []) [] tokens (p ∷ []) [] mid → IfOk r (λ x. Completes p mid (tree x) (end x)) →
-      IfOk r (λ x. Completes s tokens (tree x) (end x))
-  completes_found a h = IfOk-weaker r _ _ (λ x f. record { run = (completing a f).run; ended = f.ended; no_longer = omega (arith, b.shorter, f.no_longer) }) h
 
 -- one item more
 pub adds_by : {T A : Type 0} (r : Result T Refusal) (all : A → Value) (more : T → A → A) (end : T → List Token) {tokens mid : List Token} {from : List Due} (part : List Due) →
@@ -70,17 +58,6 @@ pub repeats_none : {T : Type 0} (r : Result T Refusal) (left : Value) {tokens mi
 repeats_none r left part a h = if_err r _ _ (λ e f d. refusing_on (declarations d ∷ []) (a d) f) h
 
 -- the same of the tokens by another name
-module _ {T : Type 0} (r : Result T Refusal) {tokens other : List Token} (is : tokens ≡ other) where
-  pub completes_same : (tree : T → Value) (end : T → List Token) (s : Due) → IfOk r (λ x. Completes s other (tree x) (end x)) → IfOk r (λ x. Completes s tokens (tree x) (end x))
-  completes_same tree end s h = subst (λ ts. IfOk r (λ x. Completes s ts (tree x) (end x))) (sym is) h
-
-  pub completes_as : (tree : T → Value) (end : T → List Token) (s : Due) → IfOk r (λ x. ReaderFinds s other (tree x) (end x)) → IfOk r (λ x. Completes s tokens (tree x) (end x))
-  completes_as tree end s h = completes_same tree end s
-      (IfOk-weaker r _ _ (λ x f. record { run = f.run; ended = f.behind.ended; no_longer = omega (arith, f.behind.shorter) }) h)
-
-  pub refuses_as : (from : List Due) (us : List Value) → IfErr r (λ e. ReaderRefuses from us other e) → IfErr r (λ e. ReaderRefuses from us tokens e)
-  refuses_as from us h = subst (λ ts. IfErr r (λ e. ReaderRefuses from us ts e)) (sym is) h
-
 pub lists_by : {T : Type 0} (r : Result T Refusal) (left v : Value) (end : T → List Token) {tokens mid : List Token} {from : List Due} (part : List Due) → IsRest tokens mid →
     Reaches from (left ∷ []) tokens (part ++ []) (left ∷ []) mid → IfOk r (λ x. Lists part mid left v (end x)) → IfOk r (λ x. Lists from tokens left v (end x))
 lists_by r left v end part b a h = IfOk-weaker r _ _ (λ x f. record { run = (listing a f).run; behind = rest_of b f.behind }) h

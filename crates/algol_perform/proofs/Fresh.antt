@@ -13,22 +13,16 @@ use Rattle.algol_instances.specs.SeenInstance.{named_cell, named_cells, instance
 use Rattle.algol_world.specs.SeenWorld.{process}
 use Rattle.algol_instances.specs.declared.instance.NamedCell.{NamedCell}
 use Rattle.algol_instances.specs.declared.instance.Instance.{Instance}
+use Rattle.algol_instances.proofs.Counting.{map_more}
 use Rattle.algol_world.specs.declared.world.Process.{Process}
+use Rattle.b67_list.proofs.Lists.{length_map, map_last}
 use Rattle.algol_perform.specs.Making.{declared_cells}
 use Rattle.algol_perform.proofs.Newer.{drop_more, drop_none}
-
-map_append : {A B : Type 0} (f : A → B) (xs : List A) (x : A) → map f (xs ++ x ∷ []) ≡ map f xs ++ f x ∷ []
-map_append f [] x = refl
-map_append f (y ∷ xs) x = ap (λ (ys : _). f y ∷ ys) (map_append f xs x)
-
-map_length : {A B : Type 0} (f : A → B) (xs : List A) → length (map f xs) ≡ length xs
-map_length f [] = refl
-map_length f (x ∷ xs) = ap (λ (n : ℕ). suc n) (map_length f xs)
 
 -- ---- cells
 
 pub cells_append : (cs : List NamedCell) (c : NamedCell) → named_cells (cs ++ c ∷ []) ≡ named_cells cs ++ named_cell c ∷ []
-cells_append cs c = map_append named_cell cs c
+cells_append cs c = map_last named_cell cs c
 
 pub variables_next : (d : PDecl) (ds : PDecls) → variable_cells (tree.decls d ds) ≡ declared_cells d ++ variable_cells ds
 variables_next (tree.simple kind ns) ds = refl
@@ -76,16 +70,13 @@ module _ (ps : List Parameter) (named : List NamedCell) where
 
 -- ---- instances and processes
 
-pub instances_append : (is : List Instance) (i : Instance) → map instance (is ++ i ∷ []) ≡ map instance is ++ instance i ∷ []
-instances_append is i = map_append instance is i
-
 pub processes_append : (sc : Scopes) (qs : List Process) (q : Process) → map (process sc) (qs ++ q ∷ []) ≡ map (process sc) qs ++ process sc q ∷ []
-processes_append sc qs q = map_append (process sc) qs q
+processes_append sc qs q = map_last (process sc) qs q
 
 pub instances_count : (is : List Instance) → length (map instance is) ≡ length is
-instances_count is = map_length instance is
+instances_count is = length_map instance is
 
 pub processes_count : (sc : Scopes) (qs : List Process) → length (map (process sc) qs) ≡ length qs
-processes_count sc qs = map_length (process sc) qs
+processes_count sc qs = length_map (process sc) qs
 
-pub ruleset growing_laws = (instances_append, processes_append, instances_count, processes_count)
+pub ruleset growing_laws = (map_more, processes_append, instances_count, processes_count)

@@ -7,22 +7,19 @@ use Rattle.algol_tree.specs.Scopes.{Scopes}
 use Rattle.algol_tree.specs.declared.tree.Named.{Named}
 use Rattle.algol_meaning.specs.Value.{event}
 use Rattle.algol_meaning.specs.World as world
-use Rattle.algol_meaning.specs.World.{World, Part, Process, process_at, instance_at, with_instance, with_process, add_cells}
+use Rattle.algol_meaning.specs.World.{World, Part, Process, process_at, instance_at, with_process, add_cells}
 use Rattle.algol_meaning.specs.Rest as rest
 use Rattle.algol_meaning.specs.Rest.{Rest}
 use Rattle.algol_meaning.specs.Statements.{settle_items, items_from}
 use Rattle.b67_deeds.specs.declared.Letter.TheVariants as actions
 use Rattle.algol_meaning.specs.Critical.{some_depends_on_any, own_instances}
 use Rattle.algol_meaning.specs.Instances.{leave}
+use Rattle.algol_meaning.proofs.Cited.{leave_processes}
 use Rattle.b67_deeds.specs.Events.{fresh_state}
 use Rattle.algol_world.specs.Going.{action_chosen, going, resumed}
 use Rattle.algol_world.specs.Leaving.{is_nil, is_nothing, failing}
 use Rattle.algol_perform.specs.Going.{instance_in, owned, AreLeft, redirected, going_back, going_by, going_to, making, making_by}
 use Rattle.algol_perform.proofs.Newer.{owned_left, drop_more, drop_none}
-
-leaving_keeps : (w : World) (is : List ℕ) → (leave w is).processes ≡ w.processes
-leaving_keeps w [] = refl
-leaving_keeps w (i ∷ is) = leaving_keeps (with_instance w i (record (instance_at w i) { left = true })) is
 
 module _ (sc : Scopes) (w : World) (p : ℕ) (n : Named) (i : ℕ) where
   bad : (q : Process) (parts : List Part) → is_nil parts ≡ false → ((instance_at w i).process == p) ≡ false
@@ -108,7 +105,7 @@ module _ (sc : Scopes) (w : World) (p : ℕ) (n : Named) (i : ℕ) where
               (drop (length left) (world.or_no_process (numbered qs p)).todo)
               (settle_items sc (items_from (block_numbered sc.blocks ((instance_at w i).block)) n.name));
         })))
-        (leaving_keeps w (owned left))
+        (leave_processes w (owned left))
         ∙ jumped (process_at w p) ((process_at w p).todo) x has cut s
 
     pub goes_back :

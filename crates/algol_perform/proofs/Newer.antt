@@ -10,6 +10,7 @@ use Rattle.algol_world.specs.SeenWorld as views
 use Rattle.algol_world.specs.declared.world.Part as code
 use Rattle.algol_world.specs.Leaving.{is_nothing}
 use Rattle.algol_instances.proofs.Numbering.{map_get_none, map_get_some}
+use Rattle.b67_list.proofs.Lists.{drop_map, map_last}
 use Rattle.algol_perform.specs.Going.{part_or_none, instance_in, own_instance_of, owned, AreLeft}
 
 pub part_shown :
@@ -84,10 +85,6 @@ pub longer : {A : Type 0} (xs : List A) (x : A) → length (xs ++ x ∷ []) ≡ 
 longer [] x = refl
 longer (y ∷ xs) x = ap suc (longer xs x)
 
-map_append : {A B : Type 0} (f : A → B) (xs : List A) (x : A) → map f (xs ++ x ∷ []) ≡ map f xs ++ f x ∷ []
-map_append f [] x = refl
-map_append {A} {B} f (y ∷ xs) x = ap (λ (ys : List B). f y ∷ ys) (map_append f xs x)
-
 module _ (parts : List Part) (left : List (Option ℕ)) (i : ℕ) where
   -- the parts are gone over as far as these
   abbrev pub Seeking : Type 0
@@ -123,7 +120,7 @@ module _ (parts : List Part) (left : List (Option ℕ)) (i : ℕ) where
             ∙ s.0,
         ap (λ (p : Option ℕ). left ++ p ∷ []) f
             ∙ ap (λ (os : List (Option ℕ)). os ++ own_instance_of x ∷ []) s.1
-            ∙ sym (map_append own_instance_of (take (length left) parts) x)
+            ∙ sym (map_last own_instance_of (take (length left) parts) x)
             ∙ ap (map own_instance_of) (sym more)
             ∙ ap (λ (k : ℕ). map own_instance_of (take k parts)) (sym (longer left o)),
       )
@@ -140,14 +137,8 @@ pub ruleset part_laws = (part_shown, first_instance, no_instance)
 
 -- ---- the parts that are left
 
-map_drop : {A B : Type 0} (f : A → B) (xs : List A) (k : ℕ) → map f (drop k xs) ≡ drop k (map f xs)
-map_drop f [] zero = refl
-map_drop f [] (suc k) = refl
-map_drop f (x ∷ xs) zero = refl
-map_drop f (x ∷ xs) (suc k) = map_drop f xs k
-
 pub parts_drop : (sc : Scopes) (xs : List code.Part) (k : ℕ) → map (views.part sc) (drop k xs) ≡ drop k (map (views.part sc) xs)
-parts_drop sc xs k = map_drop (views.part sc) xs k
+parts_drop sc xs k = drop_map (views.part sc) xs k
 
 pub ruleset cutting_laws = parts_drop
 

@@ -4,6 +4,8 @@ use Rattle.std.specs.Prelude.{nat_lt}
 use Rattle.std.proofs.lemmas.Bool.Decides.{nat_tests}
 use Rattle.algol_meaning.specs.World.{Instance, or_no_instance, World, instance_at, process_at}
 use Rattle.algol_meaning.specs.Critical.{NumberedInstance, newest_first, first_on_path, process_is_one_of, is_this}
+use Rattle.b67_list.proofs.Numbers.{ltb_false, ltb_true, number_itself, number_less, same_number}
+use Rattle.b67_list.proofs.Truths.{and_false, or_right}
 use Rattle.algol_perform.specs.Path.{critical_below, is_own, newer_own, newest_own}
 
 pub ruleset referring = append_assoc
@@ -35,23 +37,8 @@ newest_step xs k l =
 
 -- ---- tests
 
-above : (a b : ℕ) → nat_lt a b ≡ false → b ≤ a
-above a b e = grind (arith, nat_tests, e)
-
-under : (a b : ℕ) → nat_lt a b ≡ true → a < b
-under a b e = grind (arith, nat_tests, e)
-
-same_number : (a b : ℕ) → (a == b) ≡ true → a ≡ b
-same_number a b e = grind (arith, nat_tests, e)
-
-less_number : (a b : ℕ) → a < b → (a == b) ≡ false
-less_number a b l = grind (arith, nat_tests, l)
-
 more_number : (a b : ℕ) → b < a → (a == b) ≡ false
 more_number a b l = grind (arith, nat_tests, l)
-
-itself : (a : ℕ) → (a == a) ≡ true
-itself a = grind (arith, nat_tests)
 
 own_process : (a b : ℕ) (left : Bool) → ((a == b) && not left) ≡ true → a ≡ b
 own_process a b left e = by (a == b) refl e
@@ -59,14 +46,6 @@ own_process a b left e = by (a == b) refl e
     by : (t : Bool) → (a == b) ≡ t → (t && not left) ≡ true → a ≡ b
     by true f g = same_number a b f
     by false f g = cc
-
-or_right : (a b : Bool) → b ≡ true → (a || b) ≡ true
-or_right true b e = refl
-or_right false b e = e
-
-never : (a : Bool) → (a && false) ≡ false
-never true = refl
-never false = refl
 
 -- ---- the newest of one's own
 
@@ -81,10 +60,10 @@ module _ (w : World) (p : ℕ) (below : ℕ) where
           (a b c : Bool) → nat_lt newest n ≡ a → nat_lt n below ≡ b → is_own w p n ≡ c
           → ((newest < n) × (n < below) × (is_own w p n ≡ true) × ((if (a && b) && c then n else newest) ≡ n))
           ⊎ (((if (a && b) && c then n else newest) ≡ newest) × (newest < n → n < below → is_own w p n ≡ false))
-      by true true true d e f = inl (under newest n d, under n below e, f, refl)
+      by true true true d e f = inl (ltb_true newest n d, ltb_true n below e, f, refl)
       by true true false d e f = inr (refl, λ _ _. f)
-      by true false c d e f = inr (refl, λ _ l. let m : below ≤ n = above n below e in absurd (omega arith))
-      by false b c d e f = inr (refl, λ l _. let m : n ≤ newest = above newest n d in absurd (omega arith))
+      by true false c d e f = inr (refl, λ _ l. let m : below ≤ n = ltb_false n below e in absurd (omega arith))
+      by false b c d e f = inr (refl, λ l _. let m : n ≤ newest = ltb_false newest n d in absurd (omega arith))
 
   least_step :
       (newest n m r : ℕ)
@@ -110,15 +89,15 @@ module _ (w : World) (p : ℕ) (below : ℕ) where
           (b : Bool) → nat_lt m r ≡ b
           → ((newest < n) × (n < below) × (is_own w p n ≡ true) × (m ≡ n)) ⊎ ((m ≡ newest) × (newest < n → n < below → is_own w p n ≡ false))
           → (r < below) × (is_own w p r ≡ true) × (((n == r) || process_is_one_of ns r) ≡ true)
-      by true e s = let g = h (under m r e) in (g.0, g.1, or_right (n == r) (process_is_one_of ns r) g.2)
+      by true e s = let g = h (ltb_true m r e) in (g.0, g.1, or_right (n == r) (process_is_one_of ns r) g.2)
       by false e (inl (a, b, own, q)) =
-          let u : r ≤ m = above m r e in
+          let u : r ≤ m = ltb_false m r e in
           let v : r ≡ n = omega arith in (
             omega arith,
             ap (is_own w p) v ∙ own,
-            ap (λ (k : ℕ). (n == k) || process_is_one_of ns k) v ∙ ap (λ (t : Bool). t || process_is_one_of ns n) (itself n),
+            ap (λ (k : ℕ). (n == k) || process_is_one_of ns k) v ∙ ap (λ (t : Bool). t || process_is_one_of ns n) (number_itself n),
           )
-      by false e (inr (q, f)) = let u : r ≤ m = above m r e in absurd (omega arith)
+      by false e (inr (q, f)) = let u : r ≤ m = ltb_false m r e in absurd (omega arith)
 
   -- what is newer than the first is one of these, and its own
   found :
@@ -149,7 +128,7 @@ module _ (w : World) (p : ℕ) (below : ℕ) where
   -- none of these that is its own is newer
   others :
       (newest : ℕ) (ns : List ℕ) (j : ℕ) → newest_own w p below newest ns < j → j < below → (is_own w p j && process_is_one_of ns j) ≡ false
-  others newest [] j l k = never (is_own w p j)
+  others newest [] j l k = and_false (is_own w p j)
   others newest (n ∷ ns) j l k =
       others_step newest n (newer_own w p below newest n) (newest_own w p below (newer_own w p below newest n) ns) j ns (newer_so newest n)
       (least (newer_own w p below newest n) ns) l k (others (newer_own w p below newest n) ns j l k)
@@ -161,7 +140,7 @@ critical_less None below c e l = let f : c ≡ 0 = e in omega arith
 critical_less (Some d) below c e l = by (nat_lt d below) refl e
   where
     by : (t : Bool) → nat_lt d below ≡ t → c ≡ (if t then d else 0) → c < below
-    by true f g = let h : d < below = under d below f in let q : c ≡ d = g in omega arith
+    by true f g = let h : d < below = ltb_true d below f in let q : c ≡ d = g in omega arith
     by false f g = let q : c ≡ 0 = g in omega arith
 
 critical_not : (o : Option ℕ) (below c j : ℕ) → c ≡ critical_below o below → c < j → j < below → is_this o j ≡ false
@@ -169,15 +148,15 @@ critical_not None below c j e l m = refl
 critical_not (Some d) below c j e l m = by (nat_lt d below) refl e
   where
     by : (t : Bool) → nat_lt d below ≡ t → c ≡ (if t then d else 0) → (d == j) ≡ false
-    by true f g = let q : c ≡ d = g in less_number d j (omega arith)
-    by false f g = let h : below ≤ d = above d below f in more_number d j (omega arith)
+    by true f g = let q : c ≡ d = g in number_less d j (omega arith)
+    by false f g = let h : below ≤ d = ltb_false d below f in more_number d j (omega arith)
 
 critical_is : (o : Option ℕ) (below c : ℕ) → c ≡ critical_below o below → 0 < c → is_this o c ≡ true
 critical_is None below c e l = let q : c ≡ 0 = e in absurd (omega arith)
 critical_is (Some d) below c e l = by (nat_lt d below) refl e
   where
     by : (t : Bool) → nat_lt d below ≡ t → c ≡ (if t then d else 0) → (d == c) ≡ true
-    by true f g = let q : c ≡ d = g in ap (λ (k : ℕ). d == k) q ∙ itself d
+    by true f g = let q : c ≡ d = g in ap (λ (k : ℕ). d == k) q ∙ number_itself d
     by false f g = let q : c ≡ 0 = g in absurd (omega arith)
 
 -- ---- the walk
@@ -280,9 +259,9 @@ module _ (w : World) (wanted : List ℕ) where
         where
           by : (t : Bool) → nat_lt 0 c ≡ t → walk c from ≡ c
           by true f =
-              let z : 0 < c = under 0 c f in
+              let z : 0 < c = ltb_true 0 c f in
               let less : c < below = critical_less ((process_at w from).critical) below c is some in stop_at c z (omega arith) (critical_on z) e
-          by false f = let u : c ≤ 0 = above 0 c f in let z : c ≡ 0 = omega arith in ap (λ (j : ℕ). walk j from) z ∙ sym z
+          by false f = let u : c ≤ 0 = ltb_false 0 c f in let z : c ≡ 0 = omega arith in ap (λ (j : ℕ). walk j from) z ∙ sym z
 
       pub path_goes_on :
           newest_own w from below c wanted ≤ c → process_is_one_of wanted c ≡ false
@@ -291,10 +270,10 @@ module _ (w : World) (wanted : List ℕ) where
         where
           by : (t : Bool) → nat_lt 0 c ≡ t → walk c from ≡ walk (c - 1) ((instance_at w c).process)
           by true f =
-              let z : 0 < c = under 0 c f in
+              let z : 0 < c = ltb_true 0 c f in
               let less : c < below = critical_less ((process_at w from).critical) below c is some in turn_at c z (omega arith) (critical_on z) e
           by false f =
-              let u : c ≤ 0 = above 0 c f in
+              let u : c ≤ 0 = ltb_false 0 c f in
               let z : c ≡ 0 = omega arith in
               let y : 0 ≡ c - 1 = omega arith in
               ap (λ (j : ℕ). walk j from) z ∙ ap (λ (j : ℕ). walk j ((instance_at w c).process)) y

@@ -116,5 +116,3 @@ module _ (sc : Scopes) (w : World) (p : ℕ) where
       (λ (k : ℕ). record { action = actions.Start; world = started_world j parent cells task (length w.processes) k; released = []; started = Some (length w.processes + 1) })
       is
       ∙ starts j parent cells task has
-
-pub ruleset start_laws = starts

@@ -10,12 +10,12 @@ use Rattle.algol_places.specs.Numbered.{place_order, PlaceNumbers}
 equal_answer : (a b c d : ℕ) → is_eq (ordering_then (nat_cmp a b) (nat_cmp c d)) ≡ (eqb c d && eqb a b)
 equal_answer a b c d = grind (arith, nat_tests)
 
-order-same : (p q : Spot) → is_at (place_order p) q ≡ same_spot p q
-order-same p q = equal_answer p.line q.line p.column q.column
+order_same : (p q : Spot) → is_at (place_order p) q ≡ same_spot p q
+order_same p q = equal_answer p.line q.line p.column q.column
 
 put_before : (m n : BTreeMap Spot ℕ) (k : ℕ) (p : Spot) (ps : List Spot) → PlaceNumbers m (k + 1) ps → UpdatesBy place_order (place_order p) m n (Some k) → PlaceNumbers n k (p ∷ ps)
 put_before m n k p ps told u spot =
-    u.0 spot ∙ ap (λ b. cond b (Some k) (get_by (place_order spot) m)) (order-same p spot) ∙ ap (λ o. cond (same_spot p spot) (Some k) o) (told spot)
+    u.0 spot ∙ ap (λ b. cond b (Some k) (get_by (place_order spot) m)) (order_same p spot) ∙ ap (λ o. cond (same_spot p spot) (Some k) o) (told spot)
 
 -- the place before those that are numbered is numbered
 pub numbered_before : (m n : BTreeMap Spot ℕ) (ps : List Spot) (i : ℕ) (d : Spot) → 0 < i → i ≤ length ps → PlaceNumbers m i (drop i ps) →

@@ -18,7 +18,7 @@ use Rattle.algol_cells.specs.SeenValue.{value}
 use Rattle.algol_rest_expr.specs.SeenExpression.{hole, wrap, refilled}
 use Rattle.algol_rest.specs.SeenRest.{stmt_or_empty}
 use Rattle.algol_rest.specs.SeenStatement.{role_at, sought_at, deed_at, last_at, tested, stepped_by, held}
-use Rattle.algol_rest_expr.proofs.Frames.{put-wrap}
+use Rattle.algol_rest_expr.proofs.Frames.{put_wrap}
 use Rattle.algol_rest_expr.specs.declared.part.Head.{Head}
 use Rattle.algol_rest_expr.specs.declared.part.Frame.{Frame}
 use Rattle.algol_rest.specs.declared.statement.Role.{Role}
@@ -52,90 +52,90 @@ nth_got ss i None b p = nth_past ss i (slice_get_past ss i (ltb-false i (length 
 nth_got ss i (Some x) b p = nth_there ss i x.now (slice_get_read ss (length ss) i x.now refl (ltb-true i (length ss) (sym b)) p)
 
 module _ (sc : Scopes) where
-  pub resume-role :
+  pub resume_role :
       (r : Role) (n : Named) (x : Actuals) (k : List Item) (a : Answer)
       → resume sc (role_at r n (wants x) k) a ≡ role_at r n (put_actuals sc x a) k
-  resume-role role.Calls n x k a = refl
-  resume-role (role.Starts task) n x k a = refl
+  resume_role role.Calls n x k a = refl
+  resume_role (role.Starts task) n x k a = refl
 
-  pub resume-sought :
+  pub resume_sought :
       (s : Sought) (x : Aim) (k : List Item) (a : Answer)
       → resume sc (sought_at sc s (aims x) k) a ≡ sought_at sc s (put_place sc x a) k
-  resume-sought (sought.Aiming r) x k a = refl
-  resume-sought sought.Locating x k a = refl
+  resume_sought (sought.Aiming r) x k a = refl
+  resume_sought sought.Locating x k a = refl
 
-  pub resume-deed : (d : Deed) (k : List Item) (a : Answer) → resume sc (deed_at d k) a ≡ settle_items sc k
-  resume-deed (deed.Store p v) k a = refl
-  resume-deed deed.Turn k a = refl
-  resume-deed (deed.Start n gs task) k a = refl
-  resume-deed (deed.Event act n) k a = refl
-  resume-deed (deed.Line phrases vs) k a = refl
-  resume-deed (deed.Arrays kind ns ps vs) k a = refl
-  resume-deed (deed.MakeEvent n) k a = refl
-  resume-deed deed.Within k a = refl
-  resume-deed deed.Dropping k a = refl
+  pub resume_deed : (d : Deed) (k : List Item) (a : Answer) → resume sc (deed_at d k) a ≡ settle_items sc k
+  resume_deed (deed.Store p v) k a = refl
+  resume_deed deed.Turn k a = refl
+  resume_deed (deed.Start n gs task) k a = refl
+  resume_deed (deed.Event act n) k a = refl
+  resume_deed (deed.Line phrases vs) k a = refl
+  resume_deed (deed.Arrays kind ns ps vs) k a = refl
+  resume_deed (deed.MakeEvent n) k a = refl
+  resume_deed deed.Within k a = refl
+  resume_deed deed.Dropping k a = refl
 
-  pub resume-last : (l : Last) (a : Answer) → resume sc (last_at l) a ≡ last_at l
-  resume-last last.Over a = refl
-  resume-last (last.Giving v) a = refl
-  resume-last (last.GivingPlace p) a = refl
-  resume-last (last.Going n) a = refl
+  pub resume_last : (l : Last) (a : Answer) → resume sc (last_at l) a ≡ last_at l
+  resume_last last.Over a = refl
+  resume_last (last.Giving v) a = refl
+  resume_last (last.GivingPlace p) a = refl
+  resume_last (last.Going n) a = refl
 
-  pub resume-tested :
+  pub resume_tested :
       (s : PStmt) (h : Hole) (k : List Item) (a : Answer)
       → resume sc (tested sc s (busy h) k) a ≡ tested sc s (answer_put sc h a) k
-  resume-tested tree.empty h k a = refl
-  resume-tested (tree.label n s) h k a = refl
-  resume-tested (tree.assign v e) h k a = refl
-  resume-tested (tree.call_of c) h k a = refl
-  resume-tested (tree.go_to n) h k a = refl
-  resume-tested (tree.block b) h k a = refl
-  resume-tested (tree.if_then c x) h k a = refl
-  resume-tested (tree.if_else c x y) h k a = refl
-  resume-tested (tree.while c b) h k a = refl
-  resume-tested (tree.until b c) h k a = refl
-  resume-tested (tree.for v e s l b) h k a = refl
-  resume-tested (tree.thru e b) h k a = refl
-  resume-tested (tree.case e ss) h k a = refl
-  resume-tested (tree.process c task) h k a = refl
-  resume-tested (tree.event act e) h k a = refl
-  resume-tested (tree.write n spot phrases es) h k a = refl
+  resume_tested tree.empty h k a = refl
+  resume_tested (tree.label n s) h k a = refl
+  resume_tested (tree.assign v e) h k a = refl
+  resume_tested (tree.call_of c) h k a = refl
+  resume_tested (tree.go_to n) h k a = refl
+  resume_tested (tree.block b) h k a = refl
+  resume_tested (tree.if_then c x) h k a = refl
+  resume_tested (tree.if_else c x y) h k a = refl
+  resume_tested (tree.while c b) h k a = refl
+  resume_tested (tree.until b c) h k a = refl
+  resume_tested (tree.for v e s l b) h k a = refl
+  resume_tested (tree.thru e b) h k a = refl
+  resume_tested (tree.case e ss) h k a = refl
+  resume_tested (tree.process c task) h k a = refl
+  resume_tested (tree.event act e) h k a = refl
+  resume_tested (tree.write n spot phrases es) h k a = refl
 
-  pub resume-stepped :
+  pub resume_stepped :
       (d : plain.Value) (s : PStmt) (h : Hole) (k : List Item) (a : Answer)
       → resume sc (stepped_by sc d s (busy h) k) a ≡ stepped_by sc d s (answer_put sc h a) k
-  resume-stepped d tree.empty h k a = refl
-  resume-stepped d (tree.label n s) h k a = refl
-  resume-stepped d (tree.assign v e) h k a = refl
-  resume-stepped d (tree.call_of c) h k a = refl
-  resume-stepped d (tree.go_to n) h k a = refl
-  resume-stepped d (tree.block b) h k a = refl
-  resume-stepped d (tree.if_then c x) h k a = refl
-  resume-stepped d (tree.if_else c x y) h k a = refl
-  resume-stepped d (tree.while c b) h k a = refl
-  resume-stepped d (tree.until b c) h k a = refl
-  resume-stepped d (tree.for v e s l b) h k a = refl
-  resume-stepped d (tree.thru e b) h k a = refl
-  resume-stepped d (tree.case e ss) h k a = refl
-  resume-stepped d (tree.process c task) h k a = refl
-  resume-stepped d (tree.event act e) h k a = refl
-  resume-stepped d (tree.write n spot phrases es) h k a = refl
+  resume_stepped d tree.empty h k a = refl
+  resume_stepped d (tree.label n s) h k a = refl
+  resume_stepped d (tree.assign v e) h k a = refl
+  resume_stepped d (tree.call_of c) h k a = refl
+  resume_stepped d (tree.go_to n) h k a = refl
+  resume_stepped d (tree.block b) h k a = refl
+  resume_stepped d (tree.if_then c x) h k a = refl
+  resume_stepped d (tree.if_else c x y) h k a = refl
+  resume_stepped d (tree.while c b) h k a = refl
+  resume_stepped d (tree.until b c) h k a = refl
+  resume_stepped d (tree.for v e s l b) h k a = refl
+  resume_stepped d (tree.thru e b) h k a = refl
+  resume_stepped d (tree.case e ss) h k a = refl
+  resume_stepped d (tree.process c task) h k a = refl
+  resume_stepped d (tree.event act e) h k a = refl
+  resume_stepped d (tree.write n spot phrases es) h k a = refl
 
-  pub resume-held :
+  pub resume_held :
       (w : Within) (h : Hole) (k : List Item) (a : Answer) → resume sc (held sc w (busy h) k) a ≡ held sc w (answer_put sc h a) k
-  resume-held within.Evaluating h k a = refl
-  resume-held (within.Storing p) h k a = refl
-  resume-held (within.Testing s) h k a = resume-tested _ h k a
-  resume-held (within.Stepping d s) h k a = resume-stepped (value d) _ h k a
-  resume-held (within.Supplying r n gs es) h k a = resume-role r _ _ k a
-  resume-held (within.Subscripting s n ks es) h k a = resume-sought s _ k a
-  resume-held (within.Writing phrases vs es) h k a = refl
-  resume-held (within.Bounding kind ns ps vs more) h k a = refl
+  resume_held within.Evaluating h k a = refl
+  resume_held (within.Storing p) h k a = refl
+  resume_held (within.Testing s) h k a = resume_tested _ h k a
+  resume_held (within.Stepping d s) h k a = resume_stepped (value d) _ h k a
+  resume_held (within.Supplying r n gs es) h k a = resume_role r _ _ k a
+  resume_held (within.Subscripting s n ks es) h k a = resume_sought s _ k a
+  resume_held (within.Writing phrases vs es) h k a = refl
+  resume_held (within.Bounding kind ns ps vs more) h k a = refl
 
-  pub resume-in :
+  pub resume_in :
       (h : Head) (w : Within) (fs : List Frame) (k : List Item) (a : Answer)
       → resume sc (held sc w (busy (wrap sc fs (hole sc h))) k) a ≡ held sc w (refilled sc fs (answer_put sc (hole sc h) a)) k
-  resume-in h w fs k a =
-      resume-held w (wrap sc fs (hole sc h)) k a ∙ ap (λ (x : Half). held sc w x k) (put-wrap sc fs (hole sc h) a)
+  resume_in h w fs k a =
+      resume_held w (wrap sc fs (hole sc h)) k a ∙ ap (λ (x : Half). held sc w x k) (put_wrap sc fs (hole sc h) a)
 
-pub ruleset resume_laws = (resume-role, resume-sought, resume-deed, resume-last, resume-in)
+pub ruleset resume_laws = (resume_role, resume_sought, resume_deed, resume_last, resume_in)

@@ -1,45 +1,17 @@
 -- Laws of declarations that are actions.
-use Rattle.std.proofs.Common.{arith, rules, ◌≡◌, ◌<◌, ◌+◌, ℕ, List, ◌∷◌, ◌++◌, ap, subst, ◌∙◌, Bool, true, false, Result, Ok, Err, IfOk}
+use Rattle.std.proofs.Common.{arith, ◌≡◌, ◌<◌, ◌+◌, ℕ, List, ◌∷◌, ◌++◌, ap, subst, ◌∙◌, Bool, true, false, Result, Ok, Err, IfOk}
 use Rattle.std.proofs.lemmas.List.{append_assoc}
 use Rattle.std.specs.Borrow.{Bor}
 use Rattle.algol_tree.specs.Plain as tree
 use Rattle.algol_tree.specs.Plain.{PDecl}
 use Rattle.algol_tree.specs.Scopes.{Scopes}
-use Rattle.std.specs.declared.boxed.Box.{Box}
-use Rattle.std.specs.declared.alloc.Global.{Global}
-use Rattle.algol_tree.specs.declared.tree.Kind.{Kind}
-use Rattle.algol_tree.specs.declared.tree.Named.{Named}
-use Rattle.algol_tree.specs.declared.tree.Heading.{Heading}
-use Rattle.algol_tree.specs.declared.tree.Stmt.{Stmt}
-use Rattle.algol_tree.specs.declared.tree.Decl.{Decl, the_lemmas}
-use Rattle.algol_tree.specs.declared.tree.Decl.TheVariants as shapes
+use Rattle.algol_tree.specs.declared.tree.Decl.{Decl}
 use Rattle.algol_meaning.specs.Statements.{decl_items, decls_items, settle_items}
-use Rattle.algol_meaning.specs.SeenTree.{stmt, decl, decls}
+use Rattle.algol_meaning.specs.SeenTree.{decl, decls}
 use Rattle.algol_rest.specs.SeenStatement.{following, weigh, decl_size, decls_size, Advances}
 use Rattle.algol_rest.specs.declared.statement.Next.{Next}
 use Rattle.algol_rest.specs.declared.statement.Next.TheVariants as next
 use Rattle.algol_rest.specs.declared.statement.Work.{Work}
-
-pub decl_of_events : (ns : List Named) → decl (shapes.Events ns) ≡ tree.events ns
-decl_of_events ns = search (rules, the_lemmas)
-
-pub decl_of_tasks : (ns : List Named) → decl (shapes.Tasks ns) ≡ tree.tasks ns
-decl_of_tasks ns = search (rules, the_lemmas)
-
-pub decl_of_simple : (kind : Kind) (ns : List Named) → decl (shapes.Simple kind ns) ≡ tree.simple kind ns
-decl_of_simple kind ns = search (rules, the_lemmas)
-
-pub decl_of_files : (ns : List Named) → decl (shapes.Files ns) ≡ tree.files ns
-decl_of_files ns = search (rules, the_lemmas)
-
-pub decl_of_labels : (ns : List Named) → decl (shapes.Labels ns) ≡ tree.labels ns
-decl_of_labels ns = search (rules, the_lemmas)
-
-pub decl_of_forward : (h : Heading) → decl (shapes.Forward h) ≡ tree.forward h
-decl_of_forward h = search (rules, the_lemmas)
-
-pub decl_of_procedure : (h : Heading) (s : Box Stmt Global) → decl (shapes.Procedure h s) ≡ tree.procedure h (stmt s.value)
-decl_of_procedure h s = search (rules, the_lemmas)
 
 pub decl_takes : (d : PDecl) (w : ℕ) → w < decl_size d + w
 decl_takes (tree.simple kind ns) w = omega (arith)

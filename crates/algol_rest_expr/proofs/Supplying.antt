@@ -18,12 +18,12 @@ pub no_more_sorts : (sc : Scopes) (es : PExprs) (gs : List rest.Given) → settl
 no_more_sorts sc tree.none gs = refl
 no_more_sorts sc (tree.more e es) gs = no_more_sorts sc es gs
 
-pub all_done-append : (gs : List Given) (g : Given) → all_done (gs ++ g ∷ []) ≡ all_done gs ++ done g ∷ []
-all_done-append [] g = refl
-all_done-append (h ∷ gs) g = ap (λ (x : _). done h ∷ x) (all_done-append gs g)
+pub all_done_append : (gs : List Given) (g : Given) → all_done (gs ++ g ∷ []) ≡ all_done gs ++ done g ∷ []
+all_done_append [] g = refl
+all_done_append (h ∷ gs) g = ap (λ (x : _). done h ∷ x) (all_done_append gs g)
 
-pub length-append-one : (gs : List Given) (g : Given) → length (gs ++ g ∷ []) ≡ length gs + 1
-length-append-one gs g = length-append gs (g ∷ [])
+pub length_append_one : (gs : List Given) (g : Given) → length (gs ++ g ∷ []) ≡ length gs + 1
+length_append_one gs g = length-append gs (g ∷ [])
 
 pub drop_here : (xs : List Sort) (k : ℕ) (s : Sort) → slice_get xs k ≡ Some s → drop k xs ≡ s ∷ drop (suc k) xs
 drop_here [] zero s e = cc
@@ -40,7 +40,7 @@ drop_past [] (suc k) e = refl
 drop_past (x ∷ xs) zero e = cc
 drop_past (x ∷ xs) (suc k) e = drop_past xs k e
 
-pub ruleset supply_laws = (all_done-append, length-append-one)
+pub ruleset supply_laws = (all_done_append, length_append_one)
 
 none_here : (o : Option Sort) → None ≡ by_value_or_none o → o ≡ None
 none_here None e = refl

@@ -1,17 +1,15 @@
 -- The tokens of names with expressions, and of bodies.
-use Rattle.std.proofs.Common.{rules, ◌≡◌, ◌+◌, refl, ◌∙◌, ap, arith, List, [], ◌∷◌}
+use Rattle.std.proofs.Common.{◌≡◌, ◌+◌, refl, ◌∙◌, ap, arith, List, [], ◌∷◌}
 use Rattle.algol_tree.specs.declared.tree.Named.{Named}
 use Rattle.algol_tree.specs.declared.tree.EventName.{EventName}
 use Rattle.algol_tree.specs.Plain as tree
 use Rattle.algol_tree.specs.Plain.{PExprs, none, more}
 use Rattle.algol_tree.specs.Counts as counts
 use Rattle.algol_tree.specs.Image.{variable, call, exprs, body, decls, stmts}
-use Rattle.algol_tree.specs.declared.tree.Variable as variables
 use Rattle.algol_tree.specs.declared.tree.Variable.{Variable}
-use Rattle.algol_tree.specs.declared.tree.Call as calls
 use Rattle.algol_tree.specs.declared.tree.Call.{Call}
-use Rattle.algol_tree.specs.declared.tree.Body as bodies
 use Rattle.algol_tree.specs.declared.tree.Body.{Body}
+use Rattle.algol_tree.proofs.Images.{body_is, call_is, variable_is}
 use Rattle.algol_rules.specs.Opened.{levels_opened, further_events}
 
 subscripted_counts : (n : Named) (es : PExprs) → counts.variable_tokens (tree.subscripted n es) ≡ levels_opened es + counts.exprs_tokens es
@@ -21,15 +19,6 @@ subscripted_counts n (more e es) = omega arith
 called_counts : (n : Named) (es : PExprs) → counts.call_tokens (tree.called n es) ≡ levels_opened es + counts.exprs_tokens es
 called_counts n none = refl
 called_counts n (more e es) = omega arith
-
-variable_is : (v : Variable) → variable v ≡ tree.subscripted v.name (exprs v.subs)
-variable_is v = search (rules, variables.the_lemmas)
-
-call_is : (c : Call) → call c ≡ tree.called c.name (exprs c.actuals)
-call_is c = search (rules, calls.the_lemmas)
-
-body_is : (b : Body) → body b ≡ tree.body b.spot (decls b.decls) (stmts b.stmts)
-body_is b = search (rules, bodies.the_lemmas)
 
 pub variable_counts : (v : Variable) → counts.variable_tokens (variable v) ≡ levels_opened (exprs v.subs) + counts.exprs_tokens (exprs v.subs)
 variable_counts v = ap counts.variable_tokens (variable_is v) ∙ subscripted_counts v.name (exprs v.subs)

@@ -28,8 +28,8 @@ lex_rule l c n m d k a b = grind arith
 lex_not : (l c n m d k : ℕ) → lex l c n m d k ≡ true → lex m d k l c n ≡ false
 lex_not l c n m d k a = grind arith
 
-lex-less : (l c n m d k : ℕ) → lex l c n m d k ≡ true → Less l c n m d k
-lex-less l c n m d k a = at_line (nat_lt l m) refl
+lex_less : (l c n m d k : ℕ) → lex l c n m d k ≡ true → Less l c n m d k
+lex_less l c n m d k a = at_line (nat_lt l m) refl
   where
     at_column : (b : Bool) → nat_lt c d ≡ b → nat_lt l m ≡ false → Less l c n m d k
     at_column true e f = column (grind arith) (grind arith)
@@ -39,25 +39,25 @@ lex-less l c n m d k a = at_line (nat_lt l m) refl
     at_line true e = line (grind arith)
     at_line false e = at_column (nat_lt c d) refl e
 
-less-lex : (l c n m d k : ℕ) → Less l c n m d k → lex l c n m d k ≡ true
-less-lex l c n m d k (line a) = grind arith
-less-lex l c n m d k (column a b) = grind arith
-less-lex l c n m d k (rule a b e) = grind arith
+less_lex : (l c n m d k : ℕ) → Less l c n m d k → lex l c n m d k ≡ true
+less_lex l c n m d k (line a) = grind arith
+less_lex l c n m d k (column a b) = grind arith
+less_lex l c n m d k (rule a b e) = grind arith
 
-less-trans : (l c n m d k p e j : ℕ) → Less l c n m d k → Less m d k p e j → Less l c n p e j
-less-trans l c n m d k p e j (line a) (line b) = line (omega arith)
-less-trans l c n m d k p e j (line a) (column b f) = line (omega arith)
-less-trans l c n m d k p e j (line a) (rule b f g) = line (omega arith)
-less-trans l c n m d k p e j (column a h) (line b) = line (omega arith)
-less-trans l c n m d k p e j (column a h) (column b f) = column (a ∙ b) (omega arith)
-less-trans l c n m d k p e j (column a h) (rule b f g) = column (a ∙ b) (omega arith)
-less-trans l c n m d k p e j (rule a h i) (line b) = line (omega arith)
-less-trans l c n m d k p e j (rule a h i) (column b f) = column (a ∙ b) (omega arith)
-less-trans l c n m d k p e j (rule a h i) (rule b f g) = rule (a ∙ b) (h ∙ f) (omega arith)
+less_trans : (l c n m d k p e j : ℕ) → Less l c n m d k → Less m d k p e j → Less l c n p e j
+less_trans l c n m d k p e j (line a) (line b) = line (omega arith)
+less_trans l c n m d k p e j (line a) (column b f) = line (omega arith)
+less_trans l c n m d k p e j (line a) (rule b f g) = line (omega arith)
+less_trans l c n m d k p e j (column a h) (line b) = line (omega arith)
+less_trans l c n m d k p e j (column a h) (column b f) = column (a ∙ b) (omega arith)
+less_trans l c n m d k p e j (column a h) (rule b f g) = column (a ∙ b) (omega arith)
+less_trans l c n m d k p e j (rule a h i) (line b) = line (omega arith)
+less_trans l c n m d k p e j (rule a h i) (column b f) = column (a ∙ b) (omega arith)
+less_trans l c n m d k p e j (rule a h i) (rule b f g) = rule (a ∙ b) (h ∙ f) (omega arith)
 
-lex-trans : (l c n m d k p e j : ℕ) → lex l c n m d k ≡ true → lex m d k p e j ≡ true → lex l c n p e j ≡ true
-lex-trans l c n m d k p e j a b =
-    less-lex l c n p e j (less-trans l c n m d k p e j (lex-less l c n m d k a) (lex-less m d k p e j b))
+lex_trans : (l c n m d k p e j : ℕ) → lex l c n m d k ≡ true → lex m d k p e j ≡ true → lex l c n p e j ≡ true
+lex_trans l c n m d k p e j a b =
+    less_lex l c n p e j (less_trans l c n m d k p e j (lex_less l c n m d k a) (lex_less m d k p e j b))
 
 -- ---- faults of rules
 
@@ -99,10 +99,10 @@ not_both f g a = lex_not f.spot.line f.spot.column (rule_number f.code) g.spot.l
 
 earlier_trans : (f g h : Fault) → is_earlier f g ≡ true → is_earlier g h ≡ true → is_earlier f h ≡ true
 earlier_trans f g h a b =
-    lex-trans f.spot.line f.spot.column (rule_number f.code) g.spot.line g.spot.column (rule_number g.code) h.spot.line h.spot.column
+    lex_trans f.spot.line f.spot.column (rule_number f.code) g.spot.line g.spot.column (rule_number g.code) h.spot.line h.spot.column
     (rule_number h.code) a b
 
-true_not_false : true ≡ false → ⊥
+pub true_not_false : true ≡ false → ⊥
 true_not_false e = cc
 
 -- the first of two does not depend on which comes first
@@ -124,9 +124,9 @@ picked : (x : Bool) (h f : Fault) → is_earlier f h ≡ x → fault_noted (Some
 picked x h f e = ap (λ z. Some (if z then f else h)) e
 
 -- Two faults are noted in either order.
-noted-swap : (first : Option Fault) (f g : Fault) → IsRule f → IsRule g → fault_noted (fault_noted first f) g ≡ fault_noted (fault_noted first g) f
-noted-swap None f g r s = ap (λ x. Some x) (either_way f g r s)
-noted-swap (Some h) f g r s = cases (is_earlier f h) (is_earlier g h) refl refl
+noted_swap : (first : Option Fault) (f g : Fault) → IsRule f → IsRule g → fault_noted (fault_noted first f) g ≡ fault_noted (fault_noted first g) f
+noted_swap None f g r s = ap (λ x. Some x) (either_way f g r s)
+noted_swap (Some h) f g r s = cases (is_earlier f h) (is_earlier g h) refl refl
   where
     behind : (x : Bool) (k j : Fault) → is_earlier k h ≡ true → is_earlier j h ≡ false → is_earlier j k ≡ x → fault_noted (Some k) j ≡ Some k
     behind true k j a b e = absurd (true_not_false (sym (earlier_trans j k h e a) ∙ b))
@@ -149,27 +149,27 @@ abbrev pub AreRules : List Fault → Type 0
 AreRules [] = Unit {0}
 AreRules (f ∷ fs) = IsRule f × AreRules fs
 
-noted_all-noted : (first : Option Fault) (f : Fault) (fs : List Fault) → IsRule f → AreRules fs → noted_all (fault_noted first f) fs ≡ fault_noted (noted_all first fs) f
-noted_all-noted first f [] r s = refl
-noted_all-noted first f (g ∷ fs) r s =
-    ap (λ z. noted_all z fs) (noted-swap first f g r s.0) ∙ noted_all-noted (fault_noted first g) f fs r s.1
+noted_all_noted : (first : Option Fault) (f : Fault) (fs : List Fault) → IsRule f → AreRules fs → noted_all (fault_noted first f) fs ≡ fault_noted (noted_all first fs) f
+noted_all_noted first f [] r s = refl
+noted_all_noted first f (g ∷ fs) r s =
+    ap (λ z. noted_all z fs) (noted_swap first f g r s.0) ∙ noted_all_noted (fault_noted first g) f fs r s.1
 
-pub noted_all-append : (first : Option Fault) (fs gs : List Fault) → noted_all first (fs ++ gs) ≡ noted_all (noted_all first fs) gs
-noted_all-append first [] gs = refl
-noted_all-append first (f ∷ fs) gs = noted_all-append (fault_noted first f) fs gs
+pub noted_all_append : (first : Option Fault) (fs gs : List Fault) → noted_all first (fs ++ gs) ≡ noted_all (noted_all first fs) gs
+noted_all_append first [] gs = refl
+noted_all_append first (f ∷ fs) gs = noted_all_append (fault_noted first f) fs gs
 
 -- Two lists of faults are noted in either order.
-pub noted_all-swap : (first : Option Fault) (fs gs : List Fault) → AreRules fs → AreRules gs →
+pub noted_all_swap : (first : Option Fault) (fs gs : List Fault) → AreRules fs → AreRules gs →
     noted_all (noted_all first fs) gs ≡ noted_all (noted_all first gs) fs
-noted_all-swap first [] gs r s = refl
-noted_all-swap first (f ∷ fs) gs r s =
-    noted_all-swap (fault_noted first f) fs gs r.1 s ∙ ap (λ z. noted_all z fs) (noted_all-noted first f gs r.0 s)
+noted_all_swap first [] gs r s = refl
+noted_all_swap first (f ∷ fs) gs r s =
+    noted_all_swap (fault_noted first f) fs gs r.1 s ∙ ap (λ z. noted_all z fs) (noted_all_noted first f gs r.0 s)
 
 some_stays : (f : Fault) (fs : List Fault) → noted_all (Some f) fs ≡ None → ⊥
 some_stays f [] e = cc
 some_stays f (g ∷ fs) e = some_stays (earlier f g) fs e
 
 -- There is no first fault exactly where there is none.
-pub first-none : (fs : List Fault) → noted_all None fs ≡ None → fs ≡ []
-first-none [] e = refl
-first-none (f ∷ fs) e = absurd (some_stays f fs e)
+pub first_none : (fs : List Fault) → noted_all None fs ≡ None → fs ≡ []
+first_none [] e = refl
+first_none (f ∷ fs) e = absurd (some_stays f fs e)

@@ -2,7 +2,6 @@
 use Rattle.std.proofs.Common.{rules, ◌≡◌, Bool, true, false, List, Option, Some, None, refl, ap, sym, ◌∙◌}
 use Rattle.std.specs.declared.boxed.Box.{Box}
 use Rattle.std.specs.declared.alloc.Global.{Global}
-use Rattle.algol_tree.specs.declared.tree.Body as bodies
 use Rattle.algol_tree.specs.declared.tree.Body.{Body}
 use Rattle.algol_tree.specs.declared.tree.Stmt as statements
 use Rattle.algol_tree.specs.declared.tree.Stmt.{Stmt, out-Stmt, roll-Stmt, roll-out-Stmt}
@@ -24,13 +23,8 @@ use Rattle.algol_tree.specs.declared.tree.PhraseText.{PhraseText}
 use Rattle.algol_tree.specs.declared.tree.Variable.{Variable}
 use Rattle.algol_tree.specs.Plain as tree
 use Rattle.algol_tree.specs.Plain.{PStmt}
-use Rattle.algol_tree.specs.Image.{body, branched, call, decl, decls, expr, exprs, pairs, stmt, stmts, variable}
-
-pub body_is : (b : Body) → body b ≡ tree.body b.spot (decls b.decls) (stmts b.stmts)
-body_is b = search (rules, bodies.the_lemmas)
-
-stmt_block : (b : Body) → stmt (forms.Block b) ≡ tree.block (body b)
-stmt_block b = search (rules, statements.the_lemmas)
+use Rattle.algol_tree.specs.Image.{body, branched, call, decl, expr, exprs, pairs, stmt, stmts, variable}
+use Rattle.algol_tree.proofs.Images.{block_is as stmt_block, stmt_of_if}
 
 pub block_is : (s : Stmt) (b : Body) → s ≡ forms.Block b → stmt s ≡ tree.block (body b)
 block_is s b h = ap stmt h ∙ stmt_block b
@@ -42,10 +36,6 @@ is_block _ = false
 other_if : (c : Expr) (x : Box Stmt Global) (y : Option (Box Stmt Global)) → is_block (branched (expr c) (stmt x.value) y) ≡ false
 other_if c x None = refl
 other_if c x (Some y) = refl
-
-stmt_if : (c : Expr) (x : Box Stmt Global) (y : Option (Box Stmt Global)) → stmt (forms.If c x y) ≡ branched (expr c) (stmt x.value) y
-stmt_if c x None = search (rules, statements.the_lemmas)
-stmt_if c x (Some y) = search (rules, statements.the_lemmas)
 
 -- a statement that is no BEGIN
 not_block_at : (x : Stmt-F Decl Stmt Body) → ((b : Body) → roll-Stmt x ≡ forms.Block b → ⊥) → is_block (stmt (roll-Stmt x)) ≡ false
@@ -75,7 +65,7 @@ not_block_at (Stmt-F.Event act e) h =
     ap (λ z. is_block (stmt z)) (forms.rolls-Event act e) ∙ (let e : is_block (stmt (forms.Event act e)) ≡ false = search (rules, statements.the_lemmas) in e)
 not_block_at (Stmt-F.Write n spot phrases es) h =
     ap (λ z. is_block (stmt z)) (forms.rolls-Write n spot phrases es) ∙ (let e : is_block (stmt (forms.Write n spot phrases es)) ≡ false = search (rules, statements.the_lemmas) in e)
-not_block_at (Stmt-F.If c x y) h = ap (λ z. is_block (stmt z)) (forms.rolls-If c x y) ∙ ap is_block (stmt_if c x y) ∙ other_if c x y
+not_block_at (Stmt-F.If c x y) h = ap (λ z. is_block (stmt z)) (forms.rolls-If c x y) ∙ ap is_block (stmt_of_if c x y) ∙ other_if c x y
 not_block_at (Stmt-F.Block b) h = absurd (h b (forms.rolls-Block b))
 
 pub not_block_of : (s : Stmt) → ((b : Body) → s ≡ forms.Block b → ⊥) → is_block (stmt s) ≡ false
@@ -169,7 +159,7 @@ go_to_read whole n same = ap stmt same ∙ its n
 
 pub if_read : (whole : Stmt) (c : Expr) (x : Box Stmt Global) (b : Option (Box Stmt Global)) (y : Stmt) → whole ≡ (forms.If c x b) → y ≡ x.value →
     stmt whole ≡ branched (expr c) (stmt y) b
-if_read whole c x b y same k = ap stmt same ∙ stmt_if c x b ∙ ap (λ (z : Stmt). branched (expr c) (stmt z) b) (sym k)
+if_read whole c x b y same k = ap stmt same ∙ stmt_of_if c x b ∙ ap (λ (z : Stmt). branched (expr c) (stmt z) b) (sym k)
 
 pub while_read : (whole : Stmt) (c : Expr) (b : Box Stmt Global) (y : Stmt) → whole ≡ (forms.While c b) → y ≡ b.value → stmt whole ≡ tree.while (expr c) (stmt y)
 while_read whole c b y same k = ap stmt same ∙ its c b ∙ ap (λ (z : Stmt). tree.while (expr c) (stmt z)) (sym k)

@@ -6,7 +6,6 @@ use Rattle.std.specs.List.{flat_map}
 use Rattle.std.specs.declared.alloc.Global.{Global}
 use Rattle.std.specs.declared.vec.Vec.{Vec}
 use Rattle.std.specs.BTreeMap.{BTreeMap}
-use Rattle.std.proofs.lemmas.List.{map-append}
 use Rattle.std.proofs.lemmas.Grind.{flat_map-append}
 use Rattle.algol_tree.specs.declared.TheConstants.{MOST_BLOCK_CELLS, MOST_PROCEDURES}
 use Rattle.algol_tree.specs.declared.token.Spot.{Spot}
@@ -21,9 +20,10 @@ use Rattle.algol_tree.specs.Cells as cells
 use Rattle.algol_tree.specs.Cells.{cells_at, cells_of, level_of}
 use Rattle.algol_tree.specs.Names.{cells_beyond, deep_actuals, deep_blocks, declared_twice, if_so, is_too_deep, long_segments, place_beyond, procedures, procedures_beyond, program_segment, segments_of_part, unknown_names}
 use Rattle.algol_tree.specs.Accepted.{broken, noted_all, scope_faults, first_fault, sites_of}
-use Rattle.algol_rules.proofs.Order.{IsRule, AreRules, noted_all-append, noted_all-swap}
+use Rattle.algol_rules.proofs.Order.{IsRule, AreRules, noted_all_append, noted_all_swap}
 use Rattle.algol_frames.specs.declared.found.Cell.{Cell}
 use Rattle.algol_frames.specs.Framing.{beyond_from, framed_cells_in, deep_place, places_of, procedure_place, those_in}
+use Rattle.algol_frames.proofs.Noting.{broken_append}
 use Rattle.algol_scope.specs.Finding.{limit_faults}
 use Rattle.algol_scope.specs.Noting.{noted_cell_of, faults_at, long_at, long_segment}
 use Rattle.algol_scope.specs.Stating.{AreNumbered, stated_block_of}
@@ -48,13 +48,13 @@ swapped : (first : Option Fault) (gs : List Fault) (fss : List (List Fault)) →
     noted_many (noted_all first gs) fss ≡ noted_all (noted_many first fss) gs
 swapped first gs [] r s = refl
 swapped first gs (fs ∷ fss) r s =
-    ap (λ o. noted_many o fss) (noted_all-swap first gs fs r s.0) ∙ swapped (noted_all first fs) gs fss r s.1
+    ap (λ o. noted_many o fss) (noted_all_swap first gs fs r s.0) ∙ swapped (noted_all first fs) gs fss r s.1
 
 apart : (first : Option Fault) (fss gss : List (List Fault)) → AllRules fss → AllRules gss → noted_many first (joined fss gss) ≡ noted_many (noted_many first fss) gss
 apart first [] gss r s = refl
 apart first (fs ∷ fss) [] r s = refl
 apart first (fs ∷ fss) (gs ∷ gss) r s =
-    ap (λ o. noted_many o (joined fss gss)) (noted_all-append first fs gs)
+    ap (λ o. noted_many o (joined fss gss)) (noted_all_append first fs gs)
     ∙ apart (noted_all (noted_all first fs) gs) fss gss r.1 s.1
     ∙ ap (λ o. noted_many o gss) (swapped (noted_all first fs) gs fss s.0 r.1)
 
@@ -79,11 +79,8 @@ by_rule_rules a b c d = (
 
 in_turn : (first : Option Fault) (a b c d : List Fault) → noted_all first (a ++ (b ++ (c ++ d))) ≡ noted_many first (a ∷ b ∷ c ∷ d ∷ [])
 in_turn first a b c d =
-    noted_all-append first a (b ++ (c ++ d)) ∙ noted_all-append (noted_all first a) b (c ++ d)
-    ∙ noted_all-append (noted_all (noted_all first a) b) c d
-
-broken_append : (code : Code) (xs ys : List Spot) → broken code (xs ++ ys) ≡ broken code xs ++ broken code ys
-broken_append code xs ys = map-append (λ (spot : Spot). record { spot = spot; code = code }) xs ys
+    noted_all_append first a (b ++ (c ++ d)) ∙ noted_all_append (noted_all first a) b (c ++ d)
+    ∙ noted_all_append (noted_all (noted_all first a) b) c d
 
 module _ (blocks : List Block) where
   abbrev by_part : Site → List (List Fault)
@@ -110,7 +107,7 @@ module _ (blocks : List Block) where
       ∙ ap (λ z. noted_all z (flat_map (faults_at blocks) xs))
       (sym (in_turn first (broken codes.UnknownName (unknown_names x)) (broken codes.DeclaredTwice (declared_twice blocks x))
       (broken codes.TooManyLevels (deep_actuals x)) (broken codes.SegmentTooLong (long_at x))))
-      ∙ sym (noted_all-append first (faults_at blocks x) (flat_map (faults_at blocks) xs))
+      ∙ sym (noted_all_append first (faults_at blocks x) (flat_map (faults_at blocks) xs))
 
 -- ---- the limits
 
@@ -195,11 +192,11 @@ module _ (u t la sd lb c p sp : List Fault) (rla : AreRules la) (rsd : AreRules 
   reorder : (o : Option Fault) → N (N (N (N (N (N (N (N o u) t) la) sd) lb) c) p) sp ≡ N (N (N (N (N (N (N (N o u) t) lb) la) c) p) sp) sd
   reorder o =
       let m : Option Fault = N (N o u) t in
-      ap (λ z. N (N (N z c) p) sp) (noted_all-swap (N m la) sd lb rsd rlb)
-      ∙ ap (λ z. N (N (N (N z sd) c) p) sp) (noted_all-swap m la lb rla rlb)
-      ∙ ap (λ z. N (N z p) sp) (noted_all-swap (N (N m lb) la) sd c rsd rc)
-      ∙ ap (λ z. N z sp) (noted_all-swap (N (N (N m lb) la) c) sd p rsd rp)
-      ∙ noted_all-swap (N (N (N (N m lb) la) c) p) sd sp rsd rsp
+      ap (λ z. N (N (N z c) p) sp) (noted_all_swap (N m la) sd lb rsd rlb)
+      ∙ ap (λ z. N (N (N (N z sd) c) p) sp) (noted_all_swap m la lb rla rlb)
+      ∙ ap (λ z. N (N z p) sp) (noted_all_swap (N (N m lb) la) sd c rsd rc)
+      ∙ ap (λ z. N z sp) (noted_all_swap (N (N (N m lb) la) c) sd p rsd rp)
+      ∙ noted_all_swap (N (N (N (N m lb) la) c) p) sd sp rsd rsp
 
 pub first_in_turn : (p : PProgram) →
     noted_all (noted_all None (flat_map (faults_at (blocks_of_program p)) (sites_of p)))
@@ -241,13 +238,13 @@ first_in_turn p =
     together p u t la sd lb c q sp h k =
         ap (λ z. noted_all None (((((u ++ t) ++ z) ++ c) ++ q) ++ broken codes.SegmentTooLong (long_segments p (sites_of p)))) (sym h)
         ∙ ap (λ z. noted_all None (((((u ++ t) ++ (lb ++ la)) ++ c) ++ q) ++ z)) (sym k)
-        ∙ noted_all-append None ((((u ++ t) ++ (lb ++ la)) ++ c) ++ q) (sp ++ sd)
+        ∙ noted_all_append None ((((u ++ t) ++ (lb ++ la)) ++ c) ++ q) (sp ++ sd)
         ∙ ap (λ z. noted_all z (sp ++ sd))
-        (noted_all-append None (((u ++ t) ++ (lb ++ la)) ++ c) q
+        (noted_all_append None (((u ++ t) ++ (lb ++ la)) ++ c) q
         ∙ ap (λ z. noted_all z q)
-        (noted_all-append None ((u ++ t) ++ (lb ++ la)) c
+        (noted_all_append None ((u ++ t) ++ (lb ++ la)) c
         ∙ ap (λ z. noted_all z c)
-        (noted_all-append None (u ++ t) (lb ++ la)
-        ∙ ap (λ z. noted_all z (lb ++ la)) (noted_all-append None u t)
-        ∙ noted_all-append (noted_all (noted_all None u) t) lb la)))
-        ∙ noted_all-append (noted_all (noted_all (noted_all (noted_all (noted_all (noted_all None u) t) lb) la) c) q) sp sd
+        (noted_all_append None (u ++ t) (lb ++ la)
+        ∙ ap (λ z. noted_all z (lb ++ la)) (noted_all_append None u t)
+        ∙ noted_all_append (noted_all (noted_all None u) t) lb la)))
+        ∙ noted_all_append (noted_all (noted_all (noted_all (noted_all (noted_all (noted_all None u) t) lb) la) c) q) sp sd

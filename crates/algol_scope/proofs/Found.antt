@@ -1,6 +1,6 @@
 -- What is found in a whole program, and its first fault.
 use Rattle.std.proofs.Common.{◌≡◌, ℕ, ◌+◌, ◌<◌, false, List, [], ◌∷◌, ◌++◌, map, length, Option, Some, None, refl, ap, sym, ◌∙◌, subst, arith}
-use Rattle.std.specs.Prelude.{min, Result, Ok, Err, IfErr, IfOk}
+use Rattle.std.specs.Prelude.{min, Result, Ok, Err, IfErr}
 use Rattle.std.specs.List.{flat_map}
 use Rattle.std.specs.declared.alloc.Global.{Global}
 use Rattle.std.specs.declared.vec.Vec.{Vec}
@@ -21,7 +21,7 @@ use Rattle.algol_tree.specs.Couples.{known_at}
 use Rattle.algol_tree.specs.Names.{name_is_one_of, place_beyond, program_segment, result_names_of}
 use Rattle.algol_tree.specs.Ascending.{IsInOrder}
 use Rattle.algol_tree.specs.Accepted.{broken, first_fault, noted_all, scope_faults, sites_of}
-use Rattle.algol_rules.proofs.Order.{first-none, noted_all-append}
+use Rattle.algol_rules.proofs.Order.{first_none, noted_all_append}
 use Rattle.algol_rules.specs.Refusing.{refusing}
 use Rattle.algol_known.specs.declared.known.Seen.TheVariants as seens
 use Rattle.algol_known.specs.declared.around.Around.{Around}
@@ -39,16 +39,16 @@ use Rattle.algol_scope.specs.Finding.{WalkHolds, IsNew, limit_faults}
 use Rattle.algol_scope.specs.Resolved.{TreeIsRefused}
 use Rattle.algol_scope.specs.Stating.{AreNumbered, Fills, WalkSettles, stated_block_of}
 use Rattle.algol_scope.proofs.FirstFault.{first_in_turn, limits_told}
-use Rattle.algol_scope.proofs.Numbering.{in-order}
+use Rattle.algol_scope.proofs.Numbering.{in_order}
 
 numbers : (p : PProgram) (bs : List Block) → blocks_of_program p ≡ bs → AreNumbered (blocks_of_program p) 0 (blocks_of_program p) → AreNumbered (blocks_of_program p) 0 bs
 numbers p bs e n = let P : List Block → Type 0 = λ z. AreNumbered (blocks_of_program p) 0 z in subst P e n
 
-its-blocks : (spot : Spot) (ds : PDecls) (ss : PStmts) →
+its_blocks : (spot : Spot) (ds : PDecls) (ss : PStmts) →
     blocks_of_program (tree.program (tree.body spot ds ss)) ≡
     outer_block (tree.body spot ds ss) ∷ blocks_in_body (tree.body spot ds ss) (spot ∷ [])
 unfolding blocks_of_program
-its-blocks spot ds ss = refl
+its_blocks spot ds ss = refl
 
 module _ (new mid done : Resolver) (spot : Spot) (ds : PDecls) (ss : PStmts) (order : IsInOrder (tree.program (tree.body spot ds ss))) (is : IsNew new)
     (begins : mid.blocks.items ≡ new.blocks.items ++ record { spot = spot; level = level_within new.around; is_procedure = false } ∷ [])
@@ -61,7 +61,7 @@ module _ (new mid done : Resolver) (spot : Spot) (ds : PDecls) (ss : PStmts) (or
   blocks = blocks_of_program (tree.program b)
 
   numbered : AreNumbered blocks 0 (outer_block b ∷ blocks_in_body b (spot ∷ []))
-  numbered = numbers (tree.program b) (outer_block b ∷ blocks_in_body b (spot ∷ [])) (its-blocks spot ds ss) (in-order (tree.program b) order)
+  numbered = numbers (tree.program b) (outer_block b ∷ blocks_in_body b (spot ∷ [])) (its_blocks spot ds ss) (in_order (tree.program b) order)
 
   level : level_within new.around ≡ 2
   level = ap (λ z. min (length z + 2) 255) is.outer
@@ -90,8 +90,8 @@ module _ (new mid done : Resolver) (spot : Spot) (ds : PDecls) (ss : PStmts) (or
             ∙ ap (λ z. name_is_one_of (result_names_of z) q) (sym numbered.1.0);
       }
 
-  pub found-whole : WalkHolds done (tree.program b)
-  found-whole =
+  pub found_whole : WalkHolds done (tree.program b)
+  found_whole =
       let N : ℕ → Type 0 = λ z. AreNumbered blocks z (blocks_in_body b (spot ∷ [])) in
       let come = fills.comes blocks outermost (spot ∷ []) settled (subst N (sym one) numbered.1.1) in
       let F : Findings → Type 0 = λ z. ScopeFinds blocks z (sites_in_body blocks b outermost) done.findings in
@@ -101,56 +101,56 @@ module _ (new mid done : Resolver) (spot : Spot) (ds : PDecls) (ss : PStmts) (or
         cells = f.cells ∙ ap (λ z. z ++ map noted_cell_of (flat_map (cells_at blocks) (sites_in_body blocks b outermost))) is.cells;
         uses = f.uses ∙ ap (λ z. z ++ map use_of (flat_map (known_at blocks) (sites_in_body blocks b outermost))) is.uses;
         blocks =
-            come.begins ∙ ap (λ z. z ++ map stated_block_of (blocks_in_body b (spot ∷ []))) first ∙ ap (map stated_block_of) (sym (its-blocks spot ds ss));
+            come.begins ∙ ap (λ z. z ++ map stated_block_of (blocks_in_body b (spot ∷ []))) first ∙ ap (map stated_block_of) (sym (its_blocks spot ds ss));
       }
 
-pub found-program : (new mid done : Resolver) (spot : Spot) (ds : PDecls) (ss : PStmts) (b : PBody) → b ≡ tree.body spot ds ss → IsInOrder (tree.program b) → IsNew new →
+pub found_program : (new mid done : Resolver) (spot : Spot) (ds : PDecls) (ss : PStmts) (b : PBody) → b ≡ tree.body spot ds ss → IsInOrder (tree.program b) → IsNew new →
     mid.blocks.items ≡ new.blocks.items ++ record { spot = spot; level = level_within new.around; is_procedure = false } ∷ [] → mid.around ≡ new.around →
     mid.findings ≡ new.findings → Fills mid done (λ blocks. sites_in_body blocks b) (blocks_in_body b) → WalkHolds done (tree.program b)
-found-program new mid done spot ds ss b e order is begins around findings fills =
+found_program new mid done spot ds ss b e order is begins around findings fills =
     let P : PBody → Type 0 = λ z. WalkHolds done (tree.program z) in
     let Q : PBody → Type 0 = λ z. IsInOrder (tree.program z) in
     let R : PBody → Type 0 = λ z. Fills mid done (λ blocks. sites_in_body blocks z) (blocks_in_body z) in
-    subst P (sym e) (found-whole new mid done spot ds ss (subst Q e order) is begins around findings (subst R e fills))
+    subst P (sym e) (found_whole new mid done spot ds ss (subst Q e order) is begins around findings (subst R e fills))
 
 -- ---- the first fault
 
-pub first-told : (r s : Resolver) (p : PProgram) (table : BTreeMap ℕ (Vec Cell Global)) → IsInOrder p → WalkHolds r p →
+pub first_told : (r s : Resolver) (p : PProgram) (table : BTreeMap ℕ (Vec Cell Global)) → IsInOrder p → WalkHolds r p →
     ((q : ℕ) → framed_cells_in table q ≡ those_in r.findings.cells.items q) →
     s.findings.faults.first ≡ noted_all r.findings.faults.first (limit_faults p r.blocks.items table) → s.findings.faults.first ≡ first_fault (scope_faults p)
-first-told r s p table order h cells e =
+first_told r s p table order h cells e =
     e ∙ ap (λ z. noted_all z (limit_faults p r.blocks.items table)) h.faults
     ∙ ap (λ z. noted_all (noted_all None (flat_map (faults_at (blocks_of_program p)) (sites_of p))) (limit_faults p z table)) h.blocks
     ∙ ap (noted_all (noted_all None (flat_map (faults_at (blocks_of_program p)) (sites_of p))))
-    (limits_told p table (λ q. cells q ∙ ap (λ z. those_in z q) h.cells) (in-order p order))
+    (limits_told p table (λ q. cells q ∙ ap (λ z. those_in z q) h.cells) (in_order p order))
     ∙ first_in_turn p
 
-pub refused-first : (p : PProgram) (first : Option Fault) (r : Result (Unit {0}) Refusal) (e : Refusal) → first ≡ first_fault (scope_faults p) → r ≡ refusing first →
+pub refused_first : (p : PProgram) (first : Option Fault) (r : Result (Unit {0}) Refusal) (e : Refusal) → first ≡ first_fault (scope_faults p) → r ≡ refusing first →
     r ≡ Err e → TreeIsRefused p e
-refused-first p None r e f h k = absurd (let clash : Ok tt ≡ Err e = sym h ∙ k in cc)
-refused-first p (Some g) r e f h k =
+refused_first p None r e f h k = absurd (let clash : Ok tt ≡ Err e = sym h ∙ k in cc)
+refused_first p (Some g) r e f h k =
     let same : refusals.At g.spot g.code ≡ e = (let both : Err (refusals.At g.spot g.code) ≡ Err e = sym h ∙ k in cc) in
     subst (TreeIsRefused p) same (sym f)
 
 pub unrefused : (p : PProgram) (first : Option Fault) (r : Result (Unit {0}) Refusal) (u : Unit {0}) → first ≡ first_fault (scope_faults p) → r ≡ refusing first → r ≡ Ok u →
     scope_faults p ≡ []
-unrefused p None r u f h k = first-none (scope_faults p) (sym f)
+unrefused p None r u f h k = first_none (scope_faults p) (sym f)
 unrefused p (Some g) r u f h k = absurd (let clash : Err (refusals.At g.spot g.code) ≡ Ok u = sym h ∙ k in cc)
 
 -- ---- the limits, one after the other
 
-pub limits-noted : (p : PProgram) (blocks items : List begun.Block) (table : BTreeMap ℕ (Vec Cell Global)) (o f1 f2 f3 f4 : Option Fault) → blocks ≡ items →
+pub limits_noted : (p : PProgram) (blocks items : List begun.Block) (table : BTreeMap ℕ (Vec Cell Global)) (o f1 f2 f3 f4 : Option Fault) → blocks ≡ items →
     f1 ≡ noted_all o (broken codes.TooManyLevels (flat_map deep_place blocks)) → f2 ≡ noted_all f1 (broken codes.TooManyCells (beyond_from table 0 blocks)) →
     f3 ≡ noted_all f2 (broken codes.TooManyProcedures (place_beyond MOST_PROCEDURES (flat_map procedure_place blocks))) →
     f4 ≡ noted_all f3 (broken codes.SegmentTooLong (long_segment (program_segment p))) → f4 ≡ noted_all o (limit_faults p items table)
-limits-noted p blocks items table o f1 f2 f3 f4 same a b c d =
+limits_noted p blocks items table o f1 f2 f3 f4 same a b c d =
     let l : List Fault = broken codes.TooManyLevels (flat_map deep_place blocks) in
     let m : List Fault = broken codes.TooManyCells (beyond_from table 0 blocks) in
     let n : List Fault = broken codes.TooManyProcedures (place_beyond MOST_PROCEDURES (flat_map procedure_place blocks)) in
     let s : List Fault = broken codes.SegmentTooLong (long_segment (program_segment p)) in
     d ∙ ap (λ z. noted_all z s) (c ∙ ap (λ z. noted_all z n) (b ∙ ap (λ z. noted_all z m) a))
     ∙ sym
-    (noted_all-append o l (m ++ (n ++ s)) ∙ noted_all-append (noted_all o l) m (n ++ s) ∙ noted_all-append (noted_all (noted_all o l) m) n s)
+    (noted_all_append o l (m ++ (n ++ s)) ∙ noted_all_append (noted_all o l) m (n ++ s) ∙ noted_all_append (noted_all (noted_all o l) m) n s)
     ∙ ap (λ z. noted_all o (limit_faults p z table)) same
 
 -- ---- the answer
@@ -158,7 +158,3 @@ limits-noted p blocks items table o f1 f2 f3 f4 same a b c d =
 pub no_refusal : {A : Type 0} (p : PProgram) (r : Result A Refusal) → IfErr r (λ e. e ≡ refusals.NoMemory) → IfErr r (TreeIsRefused p)
 no_refusal p (Ok x) h = tt
 no_refusal p (Err e) h = subst (TreeIsRefused p) (sym h) tt
-
-pub always : {A E : Type 0} (r : Result A E) {P : Type 0} → P → IfOk r (λ x. P)
-always (Ok x) h = h
-always (Err e) h = tt

@@ -14,23 +14,24 @@ use Rattle.algol_tree.specs.declared.refusal.Fault.{Fault}
 use Rattle.algol_tree.specs.Sorts.{is_named_in, same_name}
 use Rattle.algol_tree.specs.Names.{if_so, is_no_parameter, name_is_one_of, names_of_spec, places_if, repeated}
 use Rattle.algol_tree.specs.Accepted.{broken, noted_all}
-use Rattle.algol_frames.proofs.Noting.{noted-broken}
+use Rattle.algol_frames.proofs.Noting.{noted_broken}
 use Rattle.algol_known.specs.Naming.{NameTable, IsBare, entry_in, has_name, is_typed, or_else}
 use Rattle.algol_known.specs.Passing.{kept}
 use Rattle.algol_known.proofs.Declaring.{same}
+use Rattle.b67_list.proofs.Truths.{or_false}
 
-places-append : (test : Named → Bool) (xs ys : List Named) → places_if test (xs ++ ys) ≡ places_if test xs ++ places_if test ys
-places-append test xs ys = flat_map-append (λ (n : Named). if_so (test n) n.spot) xs ys
+places_append : (test : Named → Bool) (xs ys : List Named) → places_if test (xs ++ ys) ≡ places_if test xs ++ places_if test ys
+places_append test xs ys = flat_map-append (λ (n : Named). if_so (test n) n.spot) xs ys
 
-pub places-specs : (test : Named → Bool) (ss : List Spec) →
+pub places_specs : (test : Named → Bool) (ss : List Spec) →
     places_if test (flat_map names_of_spec ss) ≡ flat_map (λ (s : Spec). places_if test (names_of_spec s)) ss
-places-specs test [] = refl
-places-specs test (s ∷ ss) =
-    places-append test (names_of_spec s) (flat_map names_of_spec ss) ∙ ap (λ z. places_if test (names_of_spec s) ++ z) (places-specs test ss)
+places_specs test [] = refl
+places_specs test (s ∷ ss) =
+    places_append test (names_of_spec s) (flat_map names_of_spec ss) ∙ ap (λ z. places_if test (names_of_spec s) ++ z) (places_specs test ss)
 
-pub unknown-one : (h : Heading) (n : Named) (name : List ℕ) (b : Bool) (now new : Option Fault) → name ≡ n.name → b ≡ is_named_in h.params name →
+pub unknown_one : (h : Heading) (n : Named) (name : List ℕ) (b : Bool) (now new : Option Fault) → name ≡ n.name → b ≡ is_named_in h.params name →
     new ≡ noted_all now (broken codes.UnknownName (if_so (not b) n.spot)) → new ≡ noted_all now (broken codes.UnknownName (if_so (is_no_parameter h n) n.spot))
-unknown-one h n name b now new e k p =
+unknown_one h n name b now new e k p =
     p ∙ ap (λ z. noted_all now (broken codes.UnknownName (if_so (not z) n.spot))) (k ∙ ap (λ z. is_named_in h.params z) e)
 
 -- ---- names that stand twice
@@ -39,10 +40,10 @@ abbrev pub after : List (List ℕ) → List Named → List (List ℕ)
 after seen [] = seen
 after seen (n ∷ ns) = after (n.name ∷ seen) ns
 
-pub repeated-append : (seen : List (List ℕ)) (xs ys : List Named) → repeated seen (xs ++ ys) ≡ repeated seen xs ++ repeated (after seen xs) ys
-repeated-append seen [] ys = refl
-repeated-append seen (x ∷ xs) ys =
-    ap (λ z. if_so (name_is_one_of seen x.name) x.spot ++ z) (repeated-append (x.name ∷ seen) xs ys)
+pub repeated_append : (seen : List (List ℕ)) (xs ys : List Named) → repeated seen (xs ++ ys) ≡ repeated seen xs ++ repeated (after seen xs) ys
+repeated_append seen [] ys = refl
+repeated_append seen (x ∷ xs) ys =
+    ap (λ z. if_so (name_is_one_of seen x.name) x.spot ++ z) (repeated_append (x.name ∷ seen) xs ys)
     ∙ sym (append_assoc (if_so (name_is_one_of seen x.name) x.spot) (repeated (x.name ∷ seen) xs) (repeated (after (x.name ∷ seen) xs) ys))
 
 or_step : (b c : Bool) (x : Bool) → (c || (if b then true else x)) ≡ ((if b then true else c) || x)
@@ -50,17 +51,17 @@ or_step true true x = refl
 or_step true false x = refl
 or_step false c x = refl
 
-pub after-has : (seen : List (List ℕ)) (ns : List Named) (q : List ℕ) → name_is_one_of (after seen ns) q ≡ (is_named_in ns q || name_is_one_of seen q)
-after-has seen [] q = refl
-after-has seen (n ∷ ns) q = after-has (n.name ∷ seen) ns q ∙ or_step (same_name n.name q) (is_named_in ns q) (name_is_one_of seen q)
+pub after_has : (seen : List (List ℕ)) (ns : List Named) (q : List ℕ) → name_is_one_of (after seen ns) q ≡ (is_named_in ns q || name_is_one_of seen q)
+after_has seen [] q = refl
+after_has seen (n ∷ ns) q = after_has (n.name ∷ seen) ns q ∙ or_step (same_name n.name q) (is_named_in ns q) (name_is_one_of seen q)
 
-kept-some : (old : Option Bool) (b x : Bool) → (b || (x || is_some old)) ≡ (x || is_some (kept old b true))
-kept-some (Some y) true true = refl
-kept-some (Some y) true false = refl
-kept-some (Some y) false x = refl
-kept-some None true true = refl
-kept-some None true false = refl
-kept-some None false x = refl
+kept_some : (old : Option Bool) (b x : Bool) → (b || (x || is_some old)) ≡ (x || is_some (kept old b true))
+kept_some (Some y) true true = refl
+kept_some (Some y) true false = refl
+kept_some (Some y) false x = refl
+kept_some None true true = refl
+kept_some None true false = refl
+kept_some None false x = refl
 
 -- A walk over names, with those that stand before: what is noted of the rest makes what there is of all.
 pub record Repeats (has : List ℕ → Bool) (before : List ℕ → Option Bool) (now all : Option Fault) (rest : List Named) : Type 0 where
@@ -68,37 +69,37 @@ pub record Repeats (has : List ℕ → Bool) (before : List ℕ → Option Bool)
   pub known : (q : List ℕ) → name_is_one_of seen q ≡ (has q || is_some (before q))
   pub noted : noted_all now (broken codes.DeclaredTwice (repeated seen rest)) ≡ all
 
-pub repeats-start : (has : List ℕ → Bool) (before : List ℕ → Option Bool) (first : Option Fault) (seen : List (List ℕ)) (ns : List Named) →
+pub repeats_start : (has : List ℕ → Bool) (before : List ℕ → Option Bool) (first : Option Fault) (seen : List (List ℕ)) (ns : List Named) →
     ((q : List ℕ) → name_is_one_of seen q ≡ (has q || is_some (before q))) →
     Repeats has before first (noted_all first (broken codes.DeclaredTwice (repeated seen ns))) ns
-repeats-start has before first seen ns h = record { seen = seen; known = h; noted = refl }
+repeats_start has before first seen ns h = record { seen = seen; known = h; noted = refl }
 
-pub repeats-some : (has : List ℕ → Bool) (old new : List ℕ → Option Bool) (now next all : Option Fault) (ns rest : List Named) →
+pub repeats_some : (has : List ℕ → Bool) (old new : List ℕ → Option Bool) (now next all : Option Fault) (ns rest : List Named) →
     Repeats has old now all (ns ++ rest) →
     ((seen : List (List ℕ)) → ((q : List ℕ) → name_is_one_of seen q ≡ (has q || is_some (old q))) → next ≡ noted_all now (broken codes.DeclaredTwice (repeated seen ns))) →
     ((q : List ℕ) → new q ≡ kept (old q) (is_named_in ns q) true) → Repeats has new next all rest
-repeats-some has old new now next all ns rest r note more =
+repeats_some has old new now next all ns rest r note more =
     record {
       seen = after r.seen ns;
       known =
           λ q.
-          after-has r.seen ns q ∙ ap (λ b. is_named_in ns q || b) (r.known q) ∙ kept-some (old q) (is_named_in ns q) (has q)
+          after_has r.seen ns q ∙ ap (λ b. is_named_in ns q || b) (r.known q) ∙ kept_some (old q) (is_named_in ns q) (has q)
           ∙ ap (λ z. has q || is_some z) (sym (more q));
       noted =
           ap (λ z. noted_all z (broken codes.DeclaredTwice (repeated (after r.seen ns) rest))) (note r.seen r.known)
-          ∙ sym (noted-broken now codes.DeclaredTwice (repeated r.seen ns) (repeated (after r.seen ns) rest))
-          ∙ ap (λ z. noted_all now (broken codes.DeclaredTwice z)) (sym (repeated-append r.seen ns rest)) ∙ r.noted;
+          ∙ sym (noted_broken now codes.DeclaredTwice (repeated r.seen ns) (repeated (after r.seen ns) rest))
+          ∙ ap (λ z. noted_all now (broken codes.DeclaredTwice z)) (sym (repeated_append r.seen ns rest)) ∙ r.noted;
     }
 
-pub repeats-item : (has : List ℕ → Bool) (old new : List ℕ → Option Bool) (now next all : Option Fault) (ns : List Named) (i : ℕ) (n : Named) (name : List ℕ) (b : Bool) →
+pub repeats_item : (has : List ℕ → Bool) (old new : List ℕ → Option Bool) (now next all : Option Fault) (ns : List Named) (i : ℕ) (n : Named) (name : List ℕ) (b : Bool) →
     i < length ns → n ≡ get_or ns i n → name ≡ n.name → b ≡ (has name || is_some (old name)) →
     next ≡ noted_all now (broken codes.DeclaredTwice (if_so b n.spot)) → ((q : List ℕ) → new q ≡ kept (old q) (bytes_eq name q) true) →
     Repeats has old now all (drop i ns) → Repeats has new next all (drop (i + 1) ns)
-repeats-item has old new now next all ns i n name b h it e t note more r =
+repeats_item has old new now next all ns i n name b h it e t note more r =
     rw add-one
     (let at : drop i ns ≡ n ∷ drop (suc i) ns = drop-cons ns i n h ∙ ap (λ z. z ∷ drop (suc i) ns) (sym it) in
     let P : List Named → Type 0 = λ z. Repeats has old now all z in
-    repeats-some has old new now next all (n ∷ []) (drop (suc i) ns) (subst P at r)
+    repeats_some has old new now next all (n ∷ []) (drop (suc i) ns) (subst P at r)
     (λ seen known.
     note
     ∙ ap (λ z. noted_all now (broken codes.DeclaredTwice (if_so z n.spot)))
@@ -110,24 +111,20 @@ repeats-item has old new now next all ns i n name b h it e t note more r =
     plain true = refl
     plain false = refl
 
-pub repeats-end : (has : List ℕ → Bool) (before : List ℕ → Option Bool) (now all : Option Fault) (ns : List Named) → ns ≡ [] → Repeats has before now all ns → now ≡ all
-repeats-end has before now all ns h r = sym (ap (λ z. noted_all now (broken codes.DeclaredTwice (repeated r.seen z))) h) ∙ r.noted
+pub repeats_end : (has : List ℕ → Bool) (before : List ℕ → Option Bool) (now all : Option Fault) (ns : List Named) → ns ≡ [] → Repeats has before now all ns → now ≡ all
+repeats_end has before now all ns h r = sym (ap (λ z. noted_all now (broken codes.DeclaredTwice (repeated r.seen z))) h) ∙ r.noted
 
 -- ---- a block with no names but that of its result
 
-or_false : (b : Bool) → (b || false) ≡ b
-or_false true = refl
-or_false false = refl
-
-pub bare-has : (typed : Option (Bor (List ℕ))) (declared parameters : NameTable) (before : Option Bool) (q : List ℕ) → IsBare declared → IsBare parameters → before ≡ None →
+pub bare_has : (typed : Option (Bor (List ℕ))) (declared parameters : NameTable) (before : Option Bool) (q : List ℕ) → IsBare declared → IsBare parameters → before ≡ None →
     (has_name typed declared parameters q || is_some before) ≡ is_typed typed q
-bare-has typed declared parameters before q d p b =
+bare_has typed declared parameters before q d p b =
     ap (λ z. (is_typed typed q || is_some (or_else z (entry_in parameters q))) || is_some before) (d q)
     ∙ ap (λ z. (is_typed typed q || is_some z) || is_some before) (p q)
     ∙ ap (λ z. (is_typed typed q || false) || is_some z) b ∙ or_false (is_typed typed q || false) ∙ or_false (is_typed typed q)
 
-pub typed-has : (name q : List ℕ) → bytes_eq name q ≡ name_is_one_of (name ∷ []) q
-typed-has name q = sym (same name q) ∙ plain (same_name name q)
+pub typed_has : (name q : List ℕ) → bytes_eq name q ≡ name_is_one_of (name ∷ []) q
+typed_has name q = sym (same name q) ∙ plain (same_name name q)
   where
     plain : (c : Bool) → c ≡ (if c then true else false)
     plain true = refl
@@ -135,24 +132,24 @@ typed-has name q = sym (same name q) ∙ plain (same_name name q)
 
 -- ---- the names of specifications
 
-pub repeats-specs : (has : List ℕ → Bool) (before : List ℕ → Option Bool) (first : Option Fault) (ss items : List Spec) → items ≡ ss →
+pub repeats_specs : (has : List ℕ → Bool) (before : List ℕ → Option Bool) (first : Option Fault) (ss items : List Spec) → items ≡ ss →
     ((q : List ℕ) → false ≡ (has q || is_some (before q))) →
     Repeats has before first (noted_all first (broken codes.DeclaredTwice (repeated [] (flat_map names_of_spec ss)))) (flat_map names_of_spec items)
-repeats-specs has before first ss items e h =
+repeats_specs has before first ss items e h =
     let P : List Spec → Type 0 =
     λ z. Repeats has before first (noted_all first (broken codes.DeclaredTwice (repeated [] (flat_map names_of_spec ss)))) (flat_map names_of_spec z) in
-    subst P (sym e) (repeats-start has before first [] (flat_map names_of_spec ss) h)
+    subst P (sym e) (repeats_start has before first [] (flat_map names_of_spec ss) h)
 
-pub repeats-spec : (has : List ℕ → Bool) (old new : List ℕ → Option Bool) (now next all : Option Fault) (ss : List Spec) (i : ℕ) (s : Spec) (ns : List Named) →
+pub repeats_spec : (has : List ℕ → Bool) (old new : List ℕ → Option Bool) (now next all : Option Fault) (ss : List Spec) (i : ℕ) (s : Spec) (ns : List Named) →
     i < length ss → s ≡ get_or ss i s → ns ≡ names_of_spec s →
     ((seen : List (List ℕ)) → ((q : List ℕ) → name_is_one_of seen q ≡ (has q || is_some (old q))) → next ≡ noted_all now (broken codes.DeclaredTwice (repeated seen ns))) →
     ((q : List ℕ) → new q ≡ kept (old q) (is_named_in ns q) true) → Repeats has old now all (flat_map names_of_spec (drop i ss)) →
     Repeats has new next all (flat_map names_of_spec (drop (i + 1) ss))
-repeats-spec has old new now next all ss i s ns h same e note more r =
+repeats_spec has old new now next all ss i s ns h same e note more r =
     rw add-one
     (let at : drop i ss ≡ s ∷ drop (suc i) ss = drop-cons ss i s h ∙ ap (λ z. z ∷ drop (suc i) ss) (sym same) in
     let P : List Named → Type 0 = λ z. Repeats has old now all z in
-    repeats-some has old new now next all ns (flat_map names_of_spec (drop (suc i) ss))
+    repeats_some has old new now next all ns (flat_map names_of_spec (drop (suc i) ss))
     (subst P (ap (flat_map names_of_spec) at ∙ ap (λ z. z ++ flat_map names_of_spec (drop (suc i) ss)) (sym e)) r) note more)
 
 -- ---- a name that is empty

@@ -23,49 +23,49 @@ use Rattle.algol_scope.specs.Noting.{FindingsAdd, Knows, ScopeWalks, faults_at}
 use Rattle.algol_scope.specs.Stating.{AreBefore, WalkSettles, WalkEnters, no_blocks}
 use Rattle.algol_scope.specs.Declaring.{Makes, decl_site, no_cells, no_faults, no_uses, nothing_so}
 use Rattle.algol_known.specs.Widening.{Widens}
-use Rattle.algol_scope.proofs.Walking.{adds-then, adds-as, adds-none}
-use Rattle.algol_scope.proofs.Visiting.{comes-then, extends-none, extends-then, keeps-same, numbered-left, numbered-right, settles-kept}
+use Rattle.algol_scope.proofs.Walking.{adds_then, adds_as, adds_none}
+use Rattle.algol_scope.proofs.Visiting.{comes_then, extends_none, extends_then, keeps_same, numbered_left, numbered_right, settles_kept}
 
 -- ---- one step after the other
 
-pub makes-then : (old mid new : Resolver) (f g : List Block → Surroundings → List Fault) (c d : List Block → Surroundings → List cells.Cell)
+pub makes_then : (old mid new : Resolver) (f g : List Block → Surroundings → List Fault) (c d : List Block → Surroundings → List cells.Cell)
     (u v : List Block → Surroundings → List Known) (p q : List Block → Surroundings → Surroundings) → Makes old mid f c u p → Makes mid new g d v q →
     Makes old new (λ blocks a. f blocks a ++ g blocks (p blocks a)) (λ blocks a. c blocks a ++ d blocks (p blocks a))
     (λ blocks a. u blocks a ++ v blocks (p blocks a)) (λ blocks a. q blocks (p blocks a))
-makes-then old mid new f g c d u v p q x y =
+makes_then old mid new f g c d u v p q x y =
     record {
       outer = y.outer ∙ x.outer;
       procedures = y.procedures ∙ x.procedures;
       blocks = y.blocks ∙ x.blocks;
       adds =
           λ blocks a spots first s.
-          adds-then old.findings mid.findings new.findings (f blocks a) (g blocks (p blocks a)) (c blocks a) (d blocks (p blocks a)) (u blocks a)
+          adds_then old.findings mid.findings new.findings (f blocks a) (g blocks (p blocks a)) (c blocks a) (d blocks (p blocks a)) (u blocks a)
           (v blocks (p blocks a)) (x.adds blocks a spots first s) (y.adds blocks (p blocks a) spots first (x.settles blocks a spots first s));
       settles = λ blocks a spots first s. y.settles blocks (p blocks a) spots first (x.settles blocks a spots first s);
     }
 
-pub makes-as : (old new : Resolver) (f g : List Block → Surroundings → List Fault) (c d : List Block → Surroundings → List cells.Cell)
+pub makes_as : (old new : Resolver) (f g : List Block → Surroundings → List Fault) (c d : List Block → Surroundings → List cells.Cell)
     (u v : List Block → Surroundings → List Known) (p : List Block → Surroundings → Surroundings) →
     ((blocks : List Block) (a : Surroundings) → f blocks a ≡ g blocks a) → ((blocks : List Block) (a : Surroundings) → c blocks a ≡ d blocks a) →
     ((blocks : List Block) (a : Surroundings) → u blocks a ≡ v blocks a) → Makes old new f c u p → Makes old new g d v p
-makes-as old new f g c d u v p e h k x =
+makes_as old new f g c d u v p e h k x =
     record {
       outer = x.outer;
       procedures = x.procedures;
       blocks = x.blocks;
       adds =
           λ blocks a spots first s.
-          adds-as old.findings new.findings (f blocks a) (g blocks a) (c blocks a) (d blocks a) (u blocks a) (v blocks a) (e blocks a) (h blocks a)
+          adds_as old.findings new.findings (f blocks a) (g blocks a) (c blocks a) (d blocks a) (u blocks a) (v blocks a) (e blocks a) (h blocks a)
           (k blocks a) (x.adds blocks a spots first s);
       settles = x.settles;
     }
 
 -- only findings change
-pub makes-adds : (old new : Resolver) (f : List Block → Surroundings → List Fault) (c : List Block → Surroundings → List cells.Cell)
+pub makes_adds : (old new : Resolver) (f : List Block → Surroundings → List Fault) (c : List Block → Surroundings → List cells.Cell)
     (u : List Block → Surroundings → List Known) → new.around ≡ old.around → new.blocks ≡ old.blocks →
     ((blocks : List Block) (a : Surroundings) (spots : List Spot) (first : List Declared) → WalkSettles blocks old a spots first →
     FindingsAdd old.findings (f blocks a) (c blocks a) (u blocks a) new.findings) → Makes old new f c u nothing_so
-makes-adds old new f c u around same h =
+makes_adds old new f c u around same h =
     record {
       outer = (let e : new.around.outer.items ≡ old.around.outer.items = cc in e);
       procedures = (let e : new.around.procedures ≡ old.around.procedures = cc in e);
@@ -73,14 +73,14 @@ makes-adds old new f c u around same h =
       adds = h;
       settles =
           λ blocks a spots first s.
-          settles-kept blocks old new a spots first [] (keeps-same old.around new.around around)
+          settles_kept blocks old new a spots first [] (keeps_same old.around new.around around)
           (let e : new.blocks.items ≡ old.blocks.items = cc in e ∙ sym (append-nil old.blocks.items)) s;
     }
 
-pub makes-knows : (old new : Resolver) (names : Surroundings → List Known) → Knows old.around old.findings new.findings names → new.around ≡ old.around →
+pub makes_knows : (old new : Resolver) (names : Surroundings → List Known) → Knows old.around old.findings new.findings names → new.around ≡ old.around →
     new.blocks ≡ old.blocks → Makes old new no_faults no_cells (λ blocks. names) nothing_so
-makes-knows old new names k around same =
-    makes-adds old new no_faults no_cells (λ blocks. names) around same (λ blocks a spots first s. k.knows a s.stands.sees)
+makes_knows old new names k around same =
+    makes_adds old new no_faults no_cells (λ blocks. names) around same (λ blocks a spots first s. k.knows a s.stands.sees)
 
 -- ---- what is declared
 
@@ -89,16 +89,16 @@ abbrev pub AreOf : ℕ → List Declared → Type 0
 AreOf block [] = Unit {0}
 AreOf block (d ∷ ds) = (d.block ≡ block) × AreOf block ds
 
-pub before-append : (n block : ℕ) (ds es : List Declared) → AreOf block ds → block < n → AreBefore n es → AreBefore n (ds ++ es)
-before-append n block [] es o h b = b
-before-append n block (d ∷ ds) es o h b =
-    (let P : ℕ → Type 0 = λ z. z < n in subst P (sym o.0) h, before-append n block ds es o.1 h b)
+pub before_append : (n block : ℕ) (ds es : List Declared) → AreOf block ds → block < n → AreBefore n es → AreBefore n (ds ++ es)
+before_append n block [] es o h b = b
+before_append n block (d ∷ ds) es o h b =
+    (let P : ℕ → Type 0 = λ z. z < n in subst P (sym o.0) h, before_append n block ds es o.1 h b)
 
-pub makes-widens : (old new : Resolver) (made : List Block → Surroundings → List Declared) →
+pub makes_widens : (old new : Resolver) (made : List Block → Surroundings → List Declared) →
     ((blocks : List Block) → Widens old.around new.around (λ a. record a { known = made blocks a ++ a.known })) →
     ((blocks : List Block) (a : Surroundings) → AreOf a.block (made blocks a)) → new.findings ≡ old.findings → new.blocks ≡ old.blocks →
     Makes old new no_faults no_cells no_uses (λ blocks a. record a { known = made blocks a ++ a.known })
-makes-widens old new made w o f same =
+makes_widens old new made w o f same =
     let count : length new.blocks.items ≡ length old.blocks.items = (let e : new.blocks.items ≡ old.blocks.items = cc in ap (λ z. length z) e) in
     record {
       outer = (let h = (w []).outer in let e : new.around.outer.items ≡ old.around.outer.items = cc in e);
@@ -106,7 +106,7 @@ makes-widens old new made w o f same =
       blocks = same;
       adds =
           λ blocks a spots first s.
-          let P : Findings → Type 0 = λ z. FindingsAdd old.findings [] [] [] z in subst P (sym f) (adds-none old.findings);
+          let P : Findings → Type 0 = λ z. FindingsAdd old.findings [] [] [] z in subst P (sym f) (adds_none old.findings);
       settles =
           λ blocks a spots first s.
           let known : ℕ → Type 0 = λ z. AreBefore z (made blocks a ++ a.known) in
@@ -117,7 +117,7 @@ makes-widens old new made w o f same =
                   sees = (w blocks).sees a s.stands.sees;
                   known =
                       subst known (sym count)
-                      (before-append (length old.blocks.items) a.block (made blocks a) a.known (o blocks a) s.stands.block s.stands.known);
+                      (before_append (length old.blocks.items) a.block (made blocks a) a.known (o blocks a) s.stands.block s.stands.known);
                   block = subst block (sym count) s.stands.block;
                   outer = s.stands.outer;
                 };
@@ -129,9 +129,9 @@ makes-widens old new made w o f same =
 
 -- ---- which names the block has
 
-is_one_of-append : (xs ys : List (List ℕ)) (q : List ℕ) → name_is_one_of (xs ++ ys) q ≡ (name_is_one_of xs q || name_is_one_of ys q)
-is_one_of-append [] ys q = refl
-is_one_of-append (x ∷ xs) ys q = step (same_name x q) (is_one_of-append xs ys q)
+is_one_of_append : (xs ys : List (List ℕ)) (q : List ℕ) → name_is_one_of (xs ++ ys) q ≡ (name_is_one_of xs q || name_is_one_of ys q)
+is_one_of_append [] ys q = refl
+is_one_of_append (x ∷ xs) ys q = step (same_name x q) (is_one_of_append xs ys q)
   where
     step : (b : Bool) → name_is_one_of (xs ++ ys) q ≡ (name_is_one_of xs q || name_is_one_of ys q) →
         (if b then true else name_is_one_of (xs ++ ys) q) ≡ ((if b then true else name_is_one_of xs q) || name_is_one_of ys q)
@@ -153,12 +153,12 @@ some_found ps (Some e) (Some d) f = refl
 some_found ps None (Some d) f = absurd f
 some_found ps (Some e) None f = absurd f
 
-pub has-told : (blocks : List Block) (r : Resolver) (a : Surroundings) (spots : List Spot) (first : List Declared) (q : List ℕ) → WalkSettles blocks r a spots first →
+pub has_told : (blocks : List Block) (r : Resolver) (a : Surroundings) (spots : List Spot) (first : List Declared) (q : List ℕ) → WalkSettles blocks r a spots first →
     name_is_one_of (result_names_of (block_numbered blocks a.block) ++ names_here a) q ≡
     has_name r.around.innermost.typed r.around.innermost.declared r.around.innermost.parameters q
-has-told blocks r a spots first q s =
+has_told blocks r a spots first q s =
     let m = r.around.innermost in
-    is_one_of-append (result_names_of (block_numbered blocks a.block)) (names_here a) q
+    is_one_of_append (result_names_of (block_numbered blocks a.block)) (names_here a) q
     ∙ ap (λ b. b || name_is_one_of (names_here a) q) (sym (s.typed q))
     ∙ ap (λ b. is_typed m.typed q || b)
     (named_or_not (own_declared a) q
@@ -166,24 +166,24 @@ has-told blocks r a spots first q s =
 
 -- ---- a declaration only, and declarations one after the other
 
-pub enters-made : (old new : Resolver) (d : PDecl) (later : PDecls) (f : List Block → Surroundings → List Fault) (c : List Block → Surroundings → List cells.Cell)
+pub enters_made : (old new : Resolver) (d : PDecl) (later : PDecls) (f : List Block → Surroundings → List Fault) (c : List Block → Surroundings → List cells.Cell)
     (u : List Block → Surroundings → List Known) (p : List Block → Surroundings → Surroundings) →
     ((blocks : List Block) (a : Surroundings) → f blocks a ≡ faults_at blocks (decl_site d later a)) →
     ((blocks : List Block) (a : Surroundings) → c blocks a ≡ cells_at blocks (decl_site d later a)) →
     ((blocks : List Block) (a : Surroundings) → u blocks a ≡ known_at blocks (decl_site d later a)) → Makes old new f c u p →
     WalkEnters old new (λ blocks a first. decl_site d later a ∷ []) no_blocks p
-enters-made old new d later f c u p e h k m =
+enters_made old new d later f c u p e h k m =
     record {
       outer = m.outer;
       procedures =
           (let same : new.around.procedures.items ≡ old.around.procedures.items = (let x = m.procedures in cc) in
           let P : List Procedure → Type 0 = λ z. Extends old.around.procedures.items z in
-          subst P (sym same) (extends-none old.around.procedures.items));
+          subst P (sym same) (extends_none old.around.procedures.items));
       comes =
           λ blocks a spots first s n.
           record {
             finds =
-                adds-as old.findings new.findings (f blocks a) (faults_at blocks (decl_site d later a) ++ []) (c blocks a)
+                adds_as old.findings new.findings (f blocks a) (faults_at blocks (decl_site d later a) ++ []) (c blocks a)
                 (cells_at blocks (decl_site d later a) ++ []) (u blocks a) (known_at blocks (decl_site d later a) ++ [])
                 (e blocks a ∙ sym (append-nil (faults_at blocks (decl_site d later a)))) (h blocks a ∙ sym (append-nil (cells_at blocks (decl_site d later a))))
                 (k blocks a ∙ sym (append-nil (known_at blocks (decl_site d later a)))) (m.adds blocks a spots first s);
@@ -193,46 +193,46 @@ enters-made old new d later f c u p e h k m =
       settles = λ blocks a spots first s n. m.settles blocks a spots first s;
     }
 
-pub enters-then : (old mid new : Resolver) (f g : List Block → Surroundings → List Declared → List Site) (b c : List Spot → List Block)
+pub enters_then : (old mid new : Resolver) (f g : List Block → Surroundings → List Declared → List Site) (b c : List Spot → List Block)
     (p q : List Block → Surroundings → Surroundings) → WalkEnters old mid f b p → WalkEnters mid new g c q →
     WalkEnters old new (λ blocks a first. f blocks a first ++ g blocks (p blocks a) first) (λ spots. b spots ++ c spots) (λ blocks a. q blocks (p blocks a))
-enters-then old mid new f g b c p q x y =
+enters_then old mid new f g b c p q x y =
     record {
       outer = y.outer ∙ x.outer;
-      procedures = extends-then old.around.procedures.items mid.around.procedures.items new.around.procedures.items x.procedures y.procedures;
+      procedures = extends_then old.around.procedures.items mid.around.procedures.items new.around.procedures.items x.procedures y.procedures;
       comes =
           λ blocks a spots first s n.
-          let l = numbered-left blocks (length old.blocks.items) (b spots) (c spots) n in
+          let l = numbered_left blocks (length old.blocks.items) (b spots) (c spots) n in
           let one = x.comes blocks a spots first s l in
-          comes-then blocks old mid new (f blocks a first) (g blocks (p blocks a) first) (b spots) (c spots) one
+          comes_then blocks old mid new (f blocks a first) (g blocks (p blocks a) first) (b spots) (c spots) one
           (y.comes blocks (p blocks a) spots first (x.settles blocks a spots first s l)
-          (numbered-right blocks old mid (b spots) (c spots) one.begins n));
+          (numbered_right blocks old mid (b spots) (c spots) one.begins n));
       settles =
           λ blocks a spots first s n.
-          let l = numbered-left blocks (length old.blocks.items) (b spots) (c spots) n in
+          let l = numbered_left blocks (length old.blocks.items) (b spots) (c spots) n in
           let one = x.comes blocks a spots first s l in
-          y.settles blocks (p blocks a) spots first (x.settles blocks a spots first s l) (numbered-right blocks old mid (b spots) (c spots) one.begins n);
+          y.settles blocks (p blocks a) spots first (x.settles blocks a spots first s l) (numbered_right blocks old mid (b spots) (c spots) one.begins n);
     }
 
-pub enters-none : (r : Resolver) → WalkEnters r r (λ blocks a first. []) no_blocks nothing_so
-enters-none r =
+pub enters_none : (r : Resolver) → WalkEnters r r (λ blocks a first. []) no_blocks nothing_so
+enters_none r =
     record {
       outer = refl;
-      procedures = extends-none r.around.procedures.items;
-      comes = λ blocks a spots first s n. record { finds = adds-none r.findings; begins = sym (append-nil r.blocks.items) };
+      procedures = extends_none r.around.procedures.items;
+      comes = λ blocks a spots first s n. record { finds = adds_none r.findings; begins = sym (append-nil r.blocks.items) };
       settles = λ blocks a spots first s n. s;
     }
 
 -- bounds see what was known at the begin of the block
-pub enters-bounds : (old new : Resolver) (ps : List PPair) → ScopeWalks old.around seens.BeforeDeclarations old.findings new.findings (sites_in_pairs ps) →
+pub enters_bounds : (old new : Resolver) (ps : List PPair) → ScopeWalks old.around seens.BeforeDeclarations old.findings new.findings (sites_in_pairs ps) →
     new.around ≡ old.around → new.blocks ≡ old.blocks →
     WalkEnters old new (λ blocks a first. sites_in_pairs ps (record a { known = first })) no_blocks nothing_so
-enters-bounds old new ps w around same =
+enters_bounds old new ps w around same =
     let begins : new.blocks.items ≡ old.blocks.items ++ [] =
     (let e : new.blocks.items ≡ old.blocks.items = cc in e ∙ sym (append-nil old.blocks.items)) in
     record {
       outer = (let e : new.around.outer.items ≡ old.around.outer.items = cc in e);
-      procedures = (keeps-same old.around new.around around).procedures;
+      procedures = (keeps_same old.around new.around around).procedures;
       comes = λ blocks a spots first s n. record { finds = w.finds blocks (record a { known = first }) s.bounds; begins = begins };
-      settles = λ blocks a spots first s n. settles-kept blocks old new a spots first [] (keeps-same old.around new.around around) begins s;
+      settles = λ blocks a spots first s n. settles_kept blocks old new a spots first [] (keeps_same old.around new.around around) begins s;
     }

@@ -36,32 +36,32 @@ use Rattle.algol_known.specs.declared.known.Seen.TheVariants as seens
 use Rattle.algol_scope.specs.Stating.{AreNumbered, WalkEnters, Fills, WalkSettles, Visits, stated_block_of, no_blocks, stmt_blocks, stmt_parts}
 use Rattle.algol_scope.specs.Declaring.{AreAhead, IsAhead, IsOf, Makes, Starts, cell_of_procedure, cells_here, decl_parts, decl_site, declared_so, faults_of_decl, known_so, no_cells, no_faults, no_uses, nothing_so, procedure_so, twice_among}
 use Rattle.algol_known.specs.Widening.{SortStandsFor}
-use Rattle.algol_scope.proofs.Walking.{added, adds-as, adds-none, adds-then, again}
-use Rattle.algol_scope.proofs.Visiting.{class-extends, numbered-right, settles-kept}
+use Rattle.algol_scope.proofs.Walking.{added, adds_as, adds_none, adds_then, again}
+use Rattle.algol_scope.proofs.Visiting.{class_extends, numbered_right, settles_kept}
 use Rattle.algol_scope.proofs.Bodies.{block_is, is_block}
-use Rattle.algol_scope.proofs.Opening.{Closes, extends-from, extends-same}
-use Rattle.algol_scope.proofs.Making.{enters-bounds, enters-made, enters-none, enters-then, makes-then}
+use Rattle.algol_scope.proofs.Opening.{Closes, extends_from, extends_same}
+use Rattle.algol_scope.proofs.Making.{enters_bounds, enters_made, enters_none, enters_then, makes_then}
 
 -- ---- what stands ahead, with more procedures
 
-pub of-extends : (ps qs : List Procedure) (x : Ahead) (h : Heading) → Extends ps qs → IsOf ps x h → IsOf qs x h
-of-extends ps qs x h e i = record { class = class-extends ps qs (procedure_class x.procedure) (classes.procedure h) e i.class; spot = i.spot; kind = i.kind }
+pub of_extends : (ps qs : List Procedure) (x : Ahead) (h : Heading) → Extends ps qs → IsOf ps x h → IsOf qs x h
+of_extends ps qs x h e i = record { class = class_extends ps qs (procedure_class x.procedure) (classes.procedure h) e i.class; spot = i.spot; kind = i.kind }
 
-is_ahead-extends : (ps qs : List Procedure) (d : PDecl) (later : PDecls) (x : Ahead) → Extends ps qs → IsAhead ps d later x → IsAhead qs d later x
-is_ahead-extends ps qs (tree.simple kind ns) later x e i = tt
-is_ahead-extends ps qs (tree.files ns) later x e i = tt
-is_ahead-extends ps qs (tree.events ns) later x e i = tt
-is_ahead-extends ps qs (tree.tasks ns) later x e i = tt
-is_ahead-extends ps qs (tree.labels ns) later x e i = tt
-is_ahead-extends ps qs (tree.arrays kind ns pairs) later x e i = tt
-is_ahead-extends ps qs (tree.forward h) later x e i = (of-extends ps qs x (announced h later) e i.0, i.1)
-is_ahead-extends ps qs (tree.procedure h s) later x e i = of-extends ps qs x h e i
+is_ahead_extends : (ps qs : List Procedure) (d : PDecl) (later : PDecls) (x : Ahead) → Extends ps qs → IsAhead ps d later x → IsAhead qs d later x
+is_ahead_extends ps qs (tree.simple kind ns) later x e i = tt
+is_ahead_extends ps qs (tree.files ns) later x e i = tt
+is_ahead_extends ps qs (tree.events ns) later x e i = tt
+is_ahead_extends ps qs (tree.tasks ns) later x e i = tt
+is_ahead_extends ps qs (tree.labels ns) later x e i = tt
+is_ahead_extends ps qs (tree.arrays kind ns pairs) later x e i = tt
+is_ahead_extends ps qs (tree.forward h) later x e i = (of_extends ps qs x (announced h later) e i.0, i.1)
+is_ahead_extends ps qs (tree.procedure h s) later x e i = of_extends ps qs x h e i
 
-pub ahead-extends : (ps qs : List Procedure) (ds : PDecls) (xs : List Ahead) → Extends ps qs → AreAhead ps ds xs → AreAhead qs ds xs
-ahead-extends ps qs tree.no_decls [] e a = tt
-ahead-extends ps qs tree.no_decls (x ∷ xs) e a = absurd a
-ahead-extends ps qs (tree.decls d ds) [] e a = absurd a
-ahead-extends ps qs (tree.decls d ds) (x ∷ xs) e a = (is_ahead-extends ps qs d ds x e a.0, ahead-extends ps qs ds xs e a.1)
+pub ahead_extends : (ps qs : List Procedure) (ds : PDecls) (xs : List Ahead) → Extends ps qs → AreAhead ps ds xs → AreAhead qs ds xs
+ahead_extends ps qs tree.no_decls [] e a = tt
+ahead_extends ps qs tree.no_decls (x ∷ xs) e a = absurd a
+ahead_extends ps qs (tree.decls d ds) [] e a = absurd a
+ahead_extends ps qs (tree.decls d ds) (x ∷ xs) e a = (is_ahead_extends ps qs d ds x e a.0, ahead_extends ps qs ds xs e a.1)
 
 -- ---- declarations one after the other
 
@@ -72,10 +72,10 @@ pub record Through (old now : Resolver) (all rest : List Decl) (left : List Ahea
       WalkEnters now last (λ blocks. sites_in_decls blocks (decls rest)) (blocks_in_decls (decls rest)) (λ blocks. knowing_all blocks (decls rest)) →
       WalkEnters old last (λ blocks. sites_in_decls blocks (decls all)) (blocks_in_decls (decls all)) (λ blocks. knowing_all blocks (decls all))
 
-pub through-start : (old now : Resolver) (ds : List Decl) (found : List Ahead) → AreAhead now.around.procedures.items (decls ds) found →
+pub through_start : (old now : Resolver) (ds : List Decl) (found : List Ahead) → AreAhead now.around.procedures.items (decls ds) found →
     Extends old.around.procedures.items now.around.procedures.items → now.around.innermost ≡ old.around.innermost → now.around.outer ≡ old.around.outer →
     now.findings ≡ old.findings → now.blocks ≡ old.blocks → Through old now ds ds found
-through-start old now ds found a e i o f b =
+through_start old now ds found a e i o f b =
     let outer : now.around.outer.items ≡ old.around.outer.items = cc in
     let begins : now.blocks.items ≡ old.blocks.items ++ [] = (let same : now.blocks.items ≡ old.blocks.items = cc in same ∙ sym (append-nil old.blocks.items)) in
     let first : WalkEnters old now (λ blocks a first. []) no_blocks nothing_so =
@@ -87,27 +87,27 @@ through-start old now ds found a e i o f b =
           record {
             finds =
                 (let P : Findings → Type 0 = λ z. ScopeFinds blocks old.findings [] z in
-                subst P (sym f) (adds-none old.findings));
+                subst P (sym f) (adds_none old.findings));
             begins = begins;
           };
       settles =
           λ blocks a spots first s n.
-          settles-kept blocks old now a spots first [] (record { innermost = i; outer = outer; procedures = e }) begins s;
+          settles_kept blocks old now a spots first [] (record { innermost = i; outer = outer; procedures = e }) begins s;
     } in
     record {
       ahead = a;
       goes =
           λ last w.
-          enters-then old now last (λ blocks a first. []) (λ blocks. sites_in_decls blocks (decls ds)) no_blocks (blocks_in_decls (decls ds)) nothing_so
+          enters_then old now last (λ blocks a first. []) (λ blocks. sites_in_decls blocks (decls ds)) no_blocks (blocks_in_decls (decls ds)) nothing_so
           (λ blocks. knowing_all blocks (decls ds)) first w;
     }
 
-pub through-item : (old now new : Resolver) (all ds : List Decl) (xs : List Ahead) (i : ℕ) (d : Decl) (x : Ahead) → i < length ds → i < length xs →
+pub through_item : (old now new : Resolver) (all ds : List Decl) (xs : List Ahead) (i : ℕ) (d : Decl) (x : Ahead) → i < length ds → i < length xs →
     d ≡ get_or ds i d → x ≡ get_or xs i x → Through old now all (drop i ds) (drop i xs) →
     ((later : PDecls) → IsAhead now.around.procedures.items (decl d) later x →
     WalkEnters now new (decl_parts (decl d) later) (blocks_in_decl (decl d)) (λ blocks. knowing blocks (decl d) later)) →
     Through old new all (drop (i + 1) ds) (drop (i + 1) xs)
-through-item old now new all ds xs i d x h k same known l enter =
+through_item old now new all ds xs i d x h k same known l enter =
     rw add-one
     (let at : drop i ds ≡ d ∷ drop (suc i) ds = drop-cons ds i d h ∙ ap (λ z. z ∷ drop (suc i) ds) (sym same) in
     let at_ahead : drop i xs ≡ x ∷ drop (suc i) xs = drop-cons xs i x k ∙ ap (λ z. z ∷ drop (suc i) xs) (sym known) in
@@ -118,20 +118,20 @@ through-item old now new all ds xs i d x h k same known l enter =
     let entered = enter later moved.ahead.0 in
     record {
       ahead =
-          ahead-extends now.around.procedures.items new.around.procedures.items later (drop (suc i) xs) entered.procedures moved.ahead.1;
+          ahead_extends now.around.procedures.items new.around.procedures.items later (drop (suc i) xs) entered.procedures moved.ahead.1;
       goes =
           λ last w.
           moved.goes last
-          (enters-then now new last (decl_parts (decl d) later) (λ blocks. sites_in_decls blocks later) (blocks_in_decl (decl d)) (blocks_in_decls later)
+          (enters_then now new last (decl_parts (decl d) later) (λ blocks. sites_in_decls blocks later) (blocks_in_decl (decl d)) (blocks_in_decls later)
           (λ blocks. knowing blocks (decl d) later) (λ blocks. knowing_all blocks later) entered w);
     })
 
-pub through-end : (old now : Resolver) (all rest : List Decl) (left : List Ahead) → rest ≡ [] → Through old now all rest left →
+pub through_end : (old now : Resolver) (all rest : List Decl) (left : List Ahead) → rest ≡ [] → Through old now all rest left →
     WalkEnters old now (λ blocks. sites_in_decls blocks (decls all)) (blocks_in_decls (decls all)) (λ blocks. knowing_all blocks (decls all))
-through-end old now all rest left h l =
+through_end old now all rest left h l =
     let P : List Decl → Type 0 = λ z. Through old now all z left in
     let moved : P [] = subst P h l in
-    moved.goes now (enters-none now)
+    moved.goes now (enters_none now)
 
 -- ---- declarations of names
 
@@ -149,69 +149,69 @@ Bare old new ns its =
     (sort : Sort) (c : classes.Class) → SortStandsFor its sort c →
     Makes old new (twice_among ns) no_cells (known_so (declared_so sort c ns) ns) (declared_so sort c ns)
 
-pub declares-simple : (old new : Resolver) (kind : Kind) (ns : List Named) (later : PDecls) → Cells old new ns (so.Variable kind) content.Variable →
+pub declares_simple : (old new : Resolver) (kind : Kind) (ns : List Named) (later : PDecls) → Cells old new ns (so.Variable kind) content.Variable →
     Declares old new (tree.simple kind ns) later
-declares-simple old new kind ns later m =
-    enters-made old new (tree.simple kind ns) later (twice_among ns) (cells_here cells.variable ns)
+declares_simple old new kind ns later m =
+    enters_made old new (tree.simple kind ns) later (twice_among ns) (cells_here cells.variable ns)
     (known_so (declared_so sort.variable (classes.simple kind) ns) ns) (declared_so sort.variable (classes.simple kind) ns)
     (λ blocks a. sym (append-nil (twice_among ns blocks a))) (λ blocks a. refl) (λ blocks a. refl)
     (m sort.variable (classes.simple kind) cells.variable ((λ ps. record { simple = refl; modes = refl; within = tt }), refl) refl)
 
-pub declares-files : (old new : Resolver) (ns : List Named) (later : PDecls) → Bare old new ns so.File → Declares old new (tree.files ns) later
-declares-files old new ns later m =
-    enters-made old new (tree.files ns) later (twice_among ns) no_cells (known_so (declared_so sort.file classes.file ns) ns)
+pub declares_files : (old new : Resolver) (ns : List Named) (later : PDecls) → Bare old new ns so.File → Declares old new (tree.files ns) later
+declares_files old new ns later m =
+    enters_made old new (tree.files ns) later (twice_among ns) no_cells (known_so (declared_so sort.file classes.file ns) ns)
     (declared_so sort.file classes.file ns) (λ blocks a. sym (append-nil (twice_among ns blocks a))) (λ blocks a. refl) (λ blocks a. refl)
     (m sort.file classes.file ((λ ps. record { simple = refl; modes = refl; within = tt }), refl))
 
-pub declares-labels : (old new : Resolver) (ns : List Named) (later : PDecls) → Bare old new ns so.Label → Declares old new (tree.labels ns) later
-declares-labels old new ns later m =
-    enters-made old new (tree.labels ns) later (twice_among ns) no_cells (known_so (declared_so sort.label classes.label ns) ns)
+pub declares_labels : (old new : Resolver) (ns : List Named) (later : PDecls) → Bare old new ns so.Label → Declares old new (tree.labels ns) later
+declares_labels old new ns later m =
+    enters_made old new (tree.labels ns) later (twice_among ns) no_cells (known_so (declared_so sort.label classes.label ns) ns)
     (declared_so sort.label classes.label ns) (λ blocks a. sym (append-nil (twice_among ns blocks a))) (λ blocks a. refl) (λ blocks a. refl)
     (m sort.label classes.label ((λ ps. record { simple = refl; modes = refl; within = tt }), refl))
 
-pub declares-events : (old new : Resolver) (ns : List Named) (later : PDecls) → Cells old new ns so.Event content.Made →
+pub declares_events : (old new : Resolver) (ns : List Named) (later : PDecls) → Cells old new ns so.Event content.Made →
     Declares old new (tree.events ns) later
-declares-events old new ns later m =
-    enters-made old new (tree.events ns) later (twice_among ns) (cells_here cells.made ns) (known_so (declared_so sort.event classes.event ns) ns)
+declares_events old new ns later m =
+    enters_made old new (tree.events ns) later (twice_among ns) (cells_here cells.made ns) (known_so (declared_so sort.event classes.event ns) ns)
     (declared_so sort.event classes.event ns) (λ blocks a. sym (append-nil (twice_among ns blocks a))) (λ blocks a. refl) (λ blocks a. refl)
     (m sort.event classes.event cells.made ((λ ps. record { simple = refl; modes = refl; within = tt }), refl) refl)
 
-pub declares-tasks : (old new : Resolver) (ns : List Named) (later : PDecls) → Cells old new ns so.Task content.Made → Declares old new (tree.tasks ns) later
-declares-tasks old new ns later m =
-    enters-made old new (tree.tasks ns) later (twice_among ns) (cells_here cells.made ns) (known_so (declared_so sort.event classes.task ns) ns)
+pub declares_tasks : (old new : Resolver) (ns : List Named) (later : PDecls) → Cells old new ns so.Task content.Made → Declares old new (tree.tasks ns) later
+declares_tasks old new ns later m =
+    enters_made old new (tree.tasks ns) later (twice_among ns) (cells_here cells.made ns) (known_so (declared_so sort.event classes.task ns) ns)
     (declared_so sort.event classes.task ns) (λ blocks a. sym (append-nil (twice_among ns blocks a))) (λ blocks a. refl) (λ blocks a. refl)
     (m sort.event classes.task cells.made ((λ ps. record { simple = refl; modes = refl; within = tt }), refl) refl)
 
-pub declares-arrays : (old mid new : Resolver) (kind : Kind) (ns : List Named) (ps : List PPair) (count : ℕ) (later : PDecls) → count ≡ length ps →
+pub declares_arrays : (old mid new : Resolver) (kind : Kind) (ns : List Named) (ps : List PPair) (count : ℕ) (later : PDecls) → count ≡ length ps →
     Cells old mid ns (so.Array kind count) content.Made →
     ScopeWalks mid.around seens.BeforeDeclarations mid.findings new.findings (sites_in_pairs ps) → new.around ≡ mid.around → new.blocks ≡ mid.blocks →
     Declares old new (tree.arrays kind ns ps) later
-declares-arrays old mid new kind ns ps count later counted m w around same =
+declares_arrays old mid new kind ns ps count later counted m w around same =
     let c : classes.Class = classes.array kind (length ps) in
     let P : ℕ → Type 0 = λ z. Cells old mid ns (so.Array kind z) content.Made in
     let its : P (length ps) = subst P counted m in
-    enters-then old mid new (λ blocks a first. decl_site (tree.arrays kind ns ps) later a ∷ [])
+    enters_then old mid new (λ blocks a first. decl_site (tree.arrays kind ns ps) later a ∷ [])
     (λ blocks a first. sites_in_pairs ps (record a { known = first })) no_blocks no_blocks (declared_so sort.array c ns) nothing_so
-    (enters-made old mid (tree.arrays kind ns ps) later (twice_among ns) (cells_here cells.made ns) (known_so (declared_so sort.array c ns) ns)
+    (enters_made old mid (tree.arrays kind ns ps) later (twice_among ns) (cells_here cells.made ns) (known_so (declared_so sort.array c ns) ns)
     (declared_so sort.array c ns) (λ blocks a. sym (append-nil (twice_among ns blocks a))) (λ blocks a. refl) (λ blocks a. refl)
     (its sort.array c cells.made ((λ qs. record { simple = refl; modes = refl; within = tt }), refl) refl))
-    (enters-bounds mid new ps w around same)
+    (enters_bounds mid new ps w around same)
 
-pub declares-forward : (old mid new : Resolver) (h : Heading) (later : PDecls) →
+pub declares_forward : (old mid new : Resolver) (h : Heading) (later : PDecls) →
     Makes old mid (faults_of_decl (tree.forward h) later) no_cells no_uses nothing_so →
     Makes mid new no_faults no_cells (known_so (procedure_so (announced h later)) (h.name ∷ [])) (procedure_so (announced h later)) →
     Declares old new (tree.forward h) later
-declares-forward old mid new h later x y =
+declares_forward old mid new h later x y =
     let p = procedure_so (announced h later) in
-    enters-made old new (tree.forward h) later (λ blocks a. faults_of_decl (tree.forward h) later blocks a ++ []) no_cells (known_so p (h.name ∷ [])) p
+    enters_made old new (tree.forward h) later (λ blocks a. faults_of_decl (tree.forward h) later blocks a ++ []) no_cells (known_so p (h.name ∷ [])) p
     (λ blocks a. append-nil (faults_of_decl (tree.forward h) later blocks a)) (λ blocks a. refl) (λ blocks a. refl)
-    (makes-then old mid new (faults_of_decl (tree.forward h) later) no_faults no_cells no_cells no_uses (known_so p (h.name ∷ [])) nothing_so p x y)
+    (makes_then old mid new (faults_of_decl (tree.forward h) later) no_faults no_cells no_cells no_uses (known_so p (h.name ∷ [])) nothing_so p x y)
 
 -- the declaration that this is
-pub declares-of : (old new : Resolver) (d : Decl) (p : PDecl) (x : Ahead) → decl d ≡ p →
+pub declares_of : (old new : Resolver) (d : Decl) (p : PDecl) (x : Ahead) → decl d ≡ p →
     ((later : PDecls) → IsAhead old.around.procedures.items p later x → Declares old new p later) →
     (later : PDecls) → IsAhead old.around.procedures.items (decl d) later x → Declares old new (decl d) later
-declares-of old new d p x same h later =
+declares_of old new d p x same h later =
     let P : PDecl → Type 0 = λ z. IsAhead old.around.procedures.items z later x → Declares old new z later in subst P (sym same) (h later)
 
 -- ---- procedures
@@ -251,11 +251,11 @@ module _ (old one two ful new : Resolver) (h : Heading) (s : PStmt) (later : PDe
       let start = st.comes blocks b spots first s (m.settles blocks a spots first g) at.0 at.1.0 in
       let fill =
       fi.comes blocks i (h.name.spot ∷ spots) start.1.1
-      (numbered-right blocks one two (procedure_block h s spots ∷ []) (inner spots) start.0 at) in
+      (numbered_right blocks one two (procedure_block h s spots ∷ []) (inner spots) start.0 at) in
       let head = cells_for (number_at blocks h.name.spot) cells.parameter h.params in
       record {
         finds =
-            adds-as old.findings ful.findings (faults_at blocks site ++ flat_map (faults_at blocks) (parts blocks i))
+            adds_as old.findings ful.findings (faults_at blocks site ++ flat_map (faults_at blocks) (parts blocks i))
             (faults_at blocks site ++ flat_map (faults_at blocks) (parts blocks i))
             (cell_of_procedure h blocks a ++ ((result_cells blocks h ++ head) ++ flat_map (cells_at blocks) (parts blocks i)))
             (cells_at blocks site ++ flat_map (cells_at blocks) (parts blocks i))
@@ -264,10 +264,10 @@ module _ (old one two ful new : Resolver) (h : Heading) (s : PStmt) (later : PDe
             (sym (append_assoc (cell_of_procedure h blocks a) (result_cells blocks h ++ head) (flat_map (cells_at blocks) (parts blocks i)))
             ∙ ap (λ z. z ++ flat_map (cells_at blocks) (parts blocks i)) (sym (append_assoc (cell_of_procedure h blocks a) (result_cells blocks h) head)))
             (sym (append_assoc (known_names b (h.name ∷ [])) (known_in_heading h i) (flat_map (known_at blocks) (parts blocks i))))
-            (adds-then old.findings one.findings ful.findings (faults_at blocks site) (flat_map (faults_at blocks) (parts blocks i))
+            (adds_then old.findings one.findings ful.findings (faults_at blocks site) (flat_map (faults_at blocks) (parts blocks i))
             (cell_of_procedure h blocks a) ((result_cells blocks h ++ head) ++ flat_map (cells_at blocks) (parts blocks i)) (known_names b (h.name ∷ []))
             (known_in_heading h i ++ flat_map (known_at blocks) (parts blocks i)) (m.adds blocks a spots first g)
-            (adds-then one.findings two.findings ful.findings [] (flat_map (faults_at blocks) (parts blocks i)) (result_cells blocks h ++ head)
+            (adds_then one.findings two.findings ful.findings [] (flat_map (faults_at blocks) (parts blocks i)) (result_cells blocks h ++ head)
             (flat_map (cells_at blocks) (parts blocks i)) (known_in_heading h i) (flat_map (known_at blocks) (parts blocks i)) start.1.0 fill.finds));
         begins = added stated_block_of one.blocks.items two.blocks.items ful.blocks.items (procedure_block h s spots ∷ []) (inner spots) start.0 fill.begins;
       }
@@ -278,18 +278,18 @@ module _ (old one two ful new : Resolver) (h : Heading) (s : PStmt) (later : PDe
         innermost = cl.innermost;
         outer = cl.outer;
         procedures =
-            extends-same one.around.procedures.items ful.around.procedures.items new.around.procedures.items
+            extends_same one.around.procedures.items ful.around.procedures.items new.around.procedures.items
             (let e = cl.procedures in let f : new.around.procedures.items ≡ ful.around.procedures.items = cc in f)
-            (extends-from one.around.procedures.items two.around.procedures.items ful.around.procedures.items
+            (extends_from one.around.procedures.items two.around.procedures.items ful.around.procedures.items
             (let e = st.procedures in let f : one.around.procedures.items ≡ two.around.procedures.items = cc in f) fi.procedures);
       }
 
-  pub declares-procedure : Declares old new (tree.procedure h s) later
-  declares-procedure =
+  pub declares_procedure : Declares old new (tree.procedure h s) later
+  declares_procedure =
       record {
         outer = cl.outer ∙ m.outer;
         procedures =
-            extends-from old.around.procedures.items one.around.procedures.items new.around.procedures.items
+            extends_from old.around.procedures.items one.around.procedures.items new.around.procedures.items
             (let e = m.procedures in let f : old.around.procedures.items ≡ one.around.procedures.items = cc in f) back.procedures;
         comes =
             λ blocks a spots first g n.
@@ -309,7 +309,7 @@ module _ (old one two ful new : Resolver) (h : Heading) (s : PStmt) (later : PDe
         settles =
             λ blocks a spots first g n.
             let w = whole blocks a spots first g n in
-            settles-kept blocks one new (procedure_so h blocks a) spots first (procedure_block h s spots ∷ inner spots) back
+            settles_kept blocks one new (procedure_so h blocks a) spots first (procedure_block h s spots ∷ inner spots) back
             (let e = cl.blocks in let f : new.blocks.items ≡ ful.blocks.items = cc in f ∙ w.begins) (m.settles blocks a spots first g);
       }
 
@@ -347,9 +347,9 @@ blocks_other : (s : PStmt) (spots : List Spot) → is_block s ≡ false → bloc
 blocks_other (tree.block b) spots h = absurd (let clash : true ≡ false = h in cc)
 blocks_other _ spots h = refl
 
-pub fills-other : (old new : Resolver) (s : PStmt) → is_block s ≡ false → Visits old new (stmt_parts s false) (stmt_blocks s) →
+pub fills_other : (old new : Resolver) (s : PStmt) → is_block s ≡ false → Visits old new (stmt_parts s false) (stmt_blocks s) →
     Fills old new (λ blocks a. here_stmt s false a ∷ inside_stmt blocks s of_procedure false a) (blocks_of s of_procedure)
-fills-other old new s h v =
+fills_other old new s h v =
     record {
       outer = v.keeps.outer;
       procedures = v.keeps.procedures;
@@ -362,17 +362,17 @@ fills-other old new s h v =
           record { finds = subst P (inside_other blocks s a h) one.finds; begins = subst Q (blocks_other s spots h) one.begins };
     }
 
-pub fills-begin : (old new : Resolver) (b : PBody) → Fills old new (λ blocks. sites_in_body blocks b) (blocks_in_body b) →
+pub fills_begin : (old new : Resolver) (b : PBody) → Fills old new (λ blocks. sites_in_body blocks b) (blocks_in_body b) →
     Fills old new (λ blocks a. here_stmt (tree.block b) false a ∷ inside_stmt blocks (tree.block b) of_procedure false a) (blocks_of (tree.block b) of_procedure)
-fills-begin old new b f =
+fills_begin old new b f =
     record {
       outer = f.outer;
       procedures = f.procedures;
       comes = λ blocks a spots g n. let one = f.comes blocks a spots g n in record { finds = again blocks old.findings new.findings (sites_in_body blocks b a) (here_stmt (tree.block b) false a ∷ sites_in_body blocks b a) refl refl refl one.finds; begins = one.begins };
     }
 
-pub fills-block : (old new : Resolver) (s : Stmt) (b : Body) → s ≡ forms.Block b → Fills old new (λ blocks. sites_in_body blocks (body b)) (blocks_in_body (body b)) →
+pub fills_block : (old new : Resolver) (s : Stmt) (b : Body) → s ≡ forms.Block b → Fills old new (λ blocks. sites_in_body blocks (body b)) (blocks_in_body (body b)) →
     Fills old new (λ blocks a. here_stmt (stmt s) false a ∷ inside_stmt blocks (stmt s) of_procedure false a) (blocks_of (stmt s) of_procedure)
-fills-block old new s b h f =
+fills_block old new s b h f =
     let P : PStmt → Type 0 = λ z. Fills old new (λ blocks a. here_stmt z false a ∷ inside_stmt blocks z of_procedure false a) (blocks_of z of_procedure) in
-    subst P (sym (block_is s b h)) (fills-begin old new (body b) f)
+    subst P (sym (block_is s b h)) (fills_begin old new (body b) f)

@@ -23,6 +23,7 @@ use Rattle.algol_tree.specs.Accepted.{broken, scope_faults, sites_of}
 use Rattle.algol_frames.specs.declared.found.Cell.{Cell}
 use Rattle.algol_frames.specs.declared.found.Use.{Use}
 use Rattle.algol_frames.specs.declared.found.Block.{Block}
+use Rattle.b67_list.proofs.Lists.{append_none_left, append_none_right, no_longer}
 use Rattle.algol_scope.specs.declared.resolver.Resolver.{Resolver}
 use Rattle.algol_frames.specs.declared.scopes.Scopes.{Scopes}
 use Rattle.algol_frames.specs.Framing.{framed_cells_in, those_in}
@@ -32,16 +33,16 @@ use Rattle.algol_scope.specs.Stating.{stated_block_of}
 use Rattle.algol_scope.specs.Resolved.{AreOf, couple, located, meaning, meaning_at, number_of_block, parameters_at}
 use Rattle.algol_frames.specs.Laying.{AreLaid, laid_in}
 use Rattle.algol_scope.proofs.FirstFault.{those_told}
-use Rattle.algol_scope.proofs.Numbering.{in-order}
+use Rattle.algol_scope.proofs.Numbering.{in_order}
 use Rattle.algol_scope.proofs.Placed.{placed}
-use Rattle.algol_scope.proofs.Founded.{few-cells, known-at, no-longer, none-left, none-right}
-use Rattle.algol_scope.proofs.Located.{actuals-told, declared-told, levels-told, meanings-told, numbers-told, parameters-told, results-told}
+use Rattle.algol_scope.proofs.Founded.{few_cells, each_known_at}
+use Rattle.algol_scope.proofs.Located.{actuals_told, declared_told, levels_told, meanings_told, numbers_told, parameters_told, results_told}
 
 -- ---- the same in other words
 
-pub laid-as : (blocks items : List Block) → blocks ≡ items → (table : BTreeMap ℕ (Vec Cell Global)) (cs cells : List Cell) → cs ≡ cells →
+pub laid_as : (blocks items : List Block) → blocks ≡ items → (table : BTreeMap ℕ (Vec Cell Global)) (cs cells : List Cell) → cs ≡ cells →
     (us uses : List Use) → us ≡ uses → (s : Scopes) → AreLaid blocks table cs us s → AreLaid items table cells uses s
-laid-as blocks items b table cs cells c us uses u s l =
+laid_as blocks items b table cs cells c us uses u s l =
     let P : List Block → Type 0 = λ z. AreLaid z table cells uses s in
     let Q : List Cell → Type 0 = λ z. AreLaid blocks table z uses s in
     let R : List Use → Type 0 = λ z. AreLaid blocks table cs z s in
@@ -49,7 +50,7 @@ laid-as blocks items b table cs cells c us uses u s l =
 
 -- ---- no limit is passed
 
-unbroken : (code : Code) (spots : List Spot) → broken code spots ≡ [] → spots ≡ []
+pub unbroken : (code : Code) (spots : List Spot) → broken code spots ≡ [] → spots ≡ []
 unbroken code [] h = refl
 unbroken code (s ∷ spots) h = absurd (let clash : record { spot = s; code = code } ∷ broken code spots ≡ [] = h in cc)
 
@@ -64,11 +65,11 @@ within p h =
     let c : List Fault = broken codes.TooManyCells (cells_beyond blocks (sites_of p)) in
     let q : List Fault = broken codes.TooManyProcedures (procedures_beyond blocks) in
     let s : List Fault = broken codes.SegmentTooLong (long_segments p (sites_of p)) in
-    let first : ((u ++ t) ++ l) ++ c ≡ [] = none-left (((u ++ t) ++ l) ++ c) q (none-left ((((u ++ t) ++ l) ++ c) ++ q) s h) in
-    let deep : l ≡ [] = none-right (u ++ t) l (none-left ((u ++ t) ++ l) c first) in (
-      none-left (deep_blocks blocks) (flat_map deep_actuals (sites_of p))
+    let first : ((u ++ t) ++ l) ++ c ≡ [] = append_none_left (((u ++ t) ++ l) ++ c) q (append_none_left ((((u ++ t) ++ l) ++ c) ++ q) s h) in
+    let deep : l ≡ [] = append_none_right (u ++ t) l (append_none_left ((u ++ t) ++ l) c first) in (
+      append_none_left (deep_blocks blocks) (flat_map deep_actuals (sites_of p))
           (unbroken codes.TooManyLevels (deep_blocks blocks ++ flat_map deep_actuals (sites_of p)) deep),
-      unbroken codes.TooManyCells (cells_beyond blocks (sites_of p)) (none-right ((u ++ t) ++ l) c first),
+      unbroken codes.TooManyCells (cells_beyond blocks (sites_of p)) (append_none_right ((u ++ t) ++ l) c first),
     )
 
 module _ (p : PProgram) (order : IsInOrder p) (faultless : scope_faults p ≡ []) (table : BTreeMap ℕ (Vec Cell Global))
@@ -76,51 +77,51 @@ module _ (p : PProgram) (order : IsInOrder p) (faultless : scope_faults p ≡ []
   abbrev blocks : List rules.Block
   blocks = blocks_of_program p
 
-  few-in : (q : ℕ) → q < length (map stated_block_of blocks) → length (framed_cells_in table q) ≤ MOST_BLOCK_CELLS
-  few-in q h = decide (slice_get blocks q) refl
+  few_in : (q : ℕ) → q < length (map stated_block_of blocks) → length (framed_cells_in table q) ≤ MOST_BLOCK_CELLS
+  few_in q h = decide (slice_get blocks q) refl
     where
       decide : (o : Option rules.Block) → slice_get blocks q ≡ o → length (framed_cells_in table q) ≤ MOST_BLOCK_CELLS
-      decide None e = absurd (omega (arith, h, length-map blocks stated_block_of, no-longer blocks q e))
+      decide None e = absurd (omega (arith, h, length-map blocks stated_block_of, no_longer blocks q e))
       decide (Some b) e =
-          let few = few-cells blocks (sites_of p) q b (in-order p order) (within p faultless).1 e in
+          let few = few_cells blocks (sites_of p) q b (in_order p order) (within p faultless).1 e in
           let its : framed_cells_in table q ≡ map noted_cell_of (cells_of blocks (sites_of p) q) = told q ∙ those_told (flat_map (cells_at blocks) (sites_of p)) q in
           omega (arith, few, ap (λ z. length z) its, length-map (cells_of blocks (sites_of p) q) noted_cell_of)
 
-  are-of : (s : Scopes) →
+  are_of : (s : Scopes) →
       AreLaid (map stated_block_of blocks) table (map noted_cell_of (flat_map (cells_at blocks) (sites_of p))) (map use_of (flat_map (known_at blocks) (sites_of p))) s →
       AreOf p s
   unfolding declaration_at meaning_at result_at actual_at level_of_block parameters_at number_of_block
-  are-of s l =
+  are_of s l =
       let deep = (within p faultless).0 in
       let each = placed p order in
-      let numbered = in-order p order in
+      let numbered = in_order p order in
       record {
         unbroken = faultless;
         declarations =
             λ spot.
             ap located (l.declarations spot)
-            ∙ declared-told blocks (sites_of p) table told deep each numbered (flat_map (known_at blocks) (sites_of p)) spot (known-at blocks (sites_of p) each);
+            ∙ declared_told blocks (sites_of p) table told deep each numbered (flat_map (known_at blocks) (sites_of p)) spot (each_known_at blocks (sites_of p) each);
         meanings =
             λ spot.
             ap meaning (l.declarations spot)
-            ∙ meanings-told (laid_in (map stated_block_of blocks) table) (flat_map (known_at blocks) (sites_of p)) spot;
-        results = λ spot. ap couple (l.results spot) ∙ results-told blocks (sites_of p) table told deep each numbered spot;
-        actuals = λ spot. ap couple (l.actuals spot) ∙ actuals-told blocks (sites_of p) table told deep each numbered spot;
-        levels = λ q. ap (λ z. slice_get z q) l.levels ∙ levels-told blocks (sites_of p) table told deep each numbered q;
-        parameters = λ spot. l.parameters spot ∙ parameters-told (flat_map (known_at blocks) (sites_of p)) spot;
-        numbers = λ spot. l.numbers spot ∙ numbers-told 0 blocks spot;
+            ∙ meanings_told (laid_in (map stated_block_of blocks) table) (flat_map (known_at blocks) (sites_of p)) spot;
+        results = λ spot. ap couple (l.results spot) ∙ results_told blocks (sites_of p) table told deep each numbered spot;
+        actuals = λ spot. ap couple (l.actuals spot) ∙ actuals_told blocks (sites_of p) table told deep each numbered spot;
+        levels = λ q. ap (λ z. slice_get z q) l.levels ∙ levels_told blocks (sites_of p) table told deep each numbered q;
+        parameters = λ spot. l.parameters spot ∙ parameters_told (flat_map (known_at blocks) (sites_of p)) spot;
+        numbers = λ spot. l.numbers spot ∙ numbers_told 0 blocks spot;
       }
 
-told-in : (r : Resolver) (p : PProgram) (table : BTreeMap ℕ (Vec Cell Global)) → WalkHolds r p → ((q : ℕ) → framed_cells_in table q ≡ those_in r.findings.cells.items q) →
+told_in : (r : Resolver) (p : PProgram) (table : BTreeMap ℕ (Vec Cell Global)) → WalkHolds r p → ((q : ℕ) → framed_cells_in table q ≡ those_in r.findings.cells.items q) →
     (q : ℕ) → framed_cells_in table q ≡ those_in (map noted_cell_of (flat_map (cells_at (blocks_of_program p)) (sites_of p))) q
-told-in r p table h told q = told q ∙ ap (λ z. those_in z q) h.cells
+told_in r p table h told q = told q ∙ ap (λ z. those_in z q) h.cells
 
 pub few : (p : PProgram) (r s : Resolver) (table : BTreeMap ℕ (Vec Cell Global)) → IsInOrder p → WalkHolds r p → scope_faults p ≡ [] →
     ((q : ℕ) → framed_cells_in table q ≡ those_in r.findings.cells.items q) → s.blocks ≡ r.blocks → (q : ℕ) → q < length s.blocks.items →
     length (framed_cells_in table q) ≤ MOST_BLOCK_CELLS
 few p r s table order h faultless told same q l =
     let its : s.blocks.items ≡ map stated_block_of (blocks_of_program p) = (let e : s.blocks.items ≡ r.blocks.items = cc in e ∙ h.blocks) in
-    few-in p order faultless table (told-in r p table h told) q (omega (arith, l, ap (λ z. length z) its))
+    few_in p order faultless table (told_in r p table h told) q (omega (arith, l, ap (λ z. length z) its))
 
 pub are : (p : PProgram) (r s : Resolver) (table : BTreeMap ℕ (Vec Cell Global)) (scopes : Scopes) → IsInOrder p → WalkHolds r p → scope_faults p ≡ [] →
     ((q : ℕ) → framed_cells_in table q ≡ those_in r.findings.cells.items q) → s.blocks ≡ r.blocks → s.findings.cells ≡ r.findings.cells →
@@ -134,10 +135,10 @@ are p r s table scopes order h faultless told b c u l =
     let P : List Block → Type 0 = λ z. AreLaid z table s.findings.cells.items s.findings.uses.items scopes in
     let Q : List Cell → Type 0 = λ z. AreLaid (map stated_block_of (blocks_of_program p)) table z s.findings.uses.items scopes in
     let R : List Use → Type 0 = λ z. AreLaid (map stated_block_of (blocks_of_program p)) table (map noted_cell_of (flat_map (cells_at (blocks_of_program p)) (sites_of p))) z scopes in
-    are-of p order faultless table (told-in r p table h told) scopes (subst R uses (subst Q cells (subst P blocks l)))
+    are_of p order faultless table (told_in r p table h told) scopes (subst R uses (subst Q cells (subst P blocks l)))
 
-pub are-all : (p : PProgram) (r s : Resolver) (table : BTreeMap ℕ (Vec Cell Global)) (result : Result Scopes Refusal) → IsInOrder p → WalkHolds r p →
+pub are_all : (p : PProgram) (r s : Resolver) (table : BTreeMap ℕ (Vec Cell Global)) (result : Result Scopes Refusal) → IsInOrder p → WalkHolds r p →
     scope_faults p ≡ [] → ((q : ℕ) → framed_cells_in table q ≡ those_in r.findings.cells.items q) → s.blocks ≡ r.blocks → s.findings.cells ≡ r.findings.cells →
     s.findings.uses ≡ r.findings.uses → IfOk result (AreLaid s.blocks.items table s.findings.cells.items s.findings.uses.items) → IfOk result (AreOf p)
-are-all p r s table (Ok scopes) order h faultless told b c u l = are p r s table scopes order h faultless told b c u l
-are-all p r s table (Err e) order h faultless told b c u l = tt
+are_all p r s table (Ok scopes) order h faultless told b c u l = are p r s table scopes order h faultless told b c u l
+are_all p r s table (Err e) order h faultless told b c u l = tt

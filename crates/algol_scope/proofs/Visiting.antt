@@ -19,34 +19,32 @@ use Rattle.algol_known.specs.declared.known.Seen.{Seen}
 use Rattle.algol_known.specs.declared.known.Seen.TheVariants as seens
 use Rattle.algol_known.specs.declared.around.Around.{Around}
 use Rattle.algol_known.specs.declared.around.Procedure.{Procedure}
+use Rattle.b67_list.proofs.Numbers.{later_still}
 use Rattle.algol_scope.specs.declared.resolver.Resolver.{Resolver}
 use Rattle.algol_known.specs.Naming.{seen_under, is_typed}
 use Rattle.algol_known.specs.Looking.{looked_up, open_blocks, modes_in, modes_of}
 use Rattle.algol_known.specs.Seeing.{Sees, KnownHolds, KnownKeeps, Extends, IsClass, IsEntry, NameIsFound, IsProcedureNumber, own_declared}
 use Rattle.algol_scope.specs.Noting.{ScopeWalks, faults_at}
 use Rattle.algol_scope.specs.Stating.{AreBefore, AreNumbered, WalkStands, WalkSettles, WalkComes, Visits, stated_block_of, no_blocks}
-use Rattle.algol_scope.proofs.Walking.{added, finds-then, again, adds-none}
+use Rattle.algol_scope.proofs.Walking.{added, finds_then, again, adds_none}
 
 -- ---- more procedures
 
-pub extends-none : (ps : List Procedure) → Extends ps ps
-extends-none ps = record { longer = omega arith; same = λ i h. refl }
+pub extends_none : (ps : List Procedure) → Extends ps ps
+extends_none ps = record { longer = omega arith; same = λ i h. refl }
 
-less-le : (i m n : ℕ) → i < m → m ≤ n → i < n
-less-le i m n h k = omega (arith, h, k)
+less_le : (i m n : ℕ) → i < m → m ≤ n → i < n
+less_le i m n h k = omega (arith, h, k)
 
-le-trans : (l m n : ℕ) → l ≤ m → m ≤ n → l ≤ n
-le-trans l m n h k = omega (arith, h, k)
-
-pub extends-then : (ps qs rs : List Procedure) → Extends ps qs → Extends qs rs → Extends ps rs
-extends-then ps qs rs x y =
+pub extends_then : (ps qs rs : List Procedure) → Extends ps qs → Extends qs rs → Extends ps rs
+extends_then ps qs rs x y =
     record {
-      longer = le-trans (length ps) (length qs) (length rs) x.longer y.longer;
-      same = λ i h. y.same i (less-le i (length ps) (length qs) h x.longer) ∙ x.same i h;
+      longer = later_still (length ps) (length qs) (length rs) x.longer y.longer;
+      same = λ i h. y.same i (less_le i (length ps) (length qs) h x.longer) ∙ x.same i h;
     }
 
-pub class-extends : (ps qs : List Procedure) (c : Class) (d : classes.Class) → Extends ps qs → IsClass ps c d → IsClass qs c d
-class-extends ps qs c d x i =
+pub class_extends : (ps qs : List Procedure) (c : Class) (d : classes.Class) → Extends ps qs → IsClass ps c d → IsClass qs c d
+class_extends ps qs c d x i =
     record {
       simple = i.simple;
       modes = same-modes c.sort c.procedure i.within ∙ i.modes;
@@ -58,17 +56,17 @@ class-extends ps qs c d x i =
     same-modes _ n w = refl
 
     still : (s : Sort) (n : ℕ) → IsProcedureNumber ps s n → IsProcedureNumber qs s n
-    still (sort.Procedure k) n w = less-le n (length ps) (length qs) w x.longer
+    still (sort.Procedure k) n w = less_le n (length ps) (length qs) w x.longer
     still _ n w = tt
 
-pub entry-extends : (ps qs : List Procedure) (e : Entry) (d : Declared) → Extends ps qs → IsEntry ps e d → IsEntry qs e d
-entry-extends ps qs e d x i = record { spot = i.spot; block = i.block; level = i.level; class = class-extends ps qs e.class d.class x i.class; sort = i.sort }
+pub entry_extends : (ps qs : List Procedure) (e : Entry) (d : Declared) → Extends ps qs → IsEntry ps e d → IsEntry qs e d
+entry_extends ps qs e d x i = record { spot = i.spot; block = i.block; level = i.level; class = class_extends ps qs e.class d.class x i.class; sort = i.sort }
 
-found-extends : (ps qs : List Procedure) (e : Option Entry) (d : Option Declared) → Extends ps qs → NameIsFound ps e d → NameIsFound qs e d
-found-extends ps qs None None x i = tt
-found-extends ps qs (Some e) (Some d) x i = entry-extends ps qs e d x i
-found-extends ps qs None (Some d) x i = absurd i
-found-extends ps qs (Some e) None x i = absurd i
+found_extends : (ps qs : List Procedure) (e : Option Entry) (d : Option Declared) → Extends ps qs → NameIsFound ps e d → NameIsFound qs e d
+found_extends ps qs None None x i = tt
+found_extends ps qs (Some e) (Some d) x i = entry_extends ps qs e d x i
+found_extends ps qs None (Some d) x i = absurd i
+found_extends ps qs (Some e) None x i = absurd i
 
 -- ---- the same names are known
 
@@ -77,8 +75,8 @@ same_lookup : (k m : Around) (seen : Seen) (q : List ℕ) → m.innermost ≡ k.
 same_lookup k m seen q i o =
     ap (λ (z : Names). looked_up (z ∷ reverse m.outer.items) seen q) i ∙ ap (λ (z : List Names). looked_up (k.innermost ∷ reverse z) seen q) o
 
-pub sees-kept : (k m : Around) (seen : Seen) (a : Surroundings) → KnownKeeps k m → Sees k seen a → Sees m seen a
-sees-kept k m seen a keeps s =
+pub sees_kept : (k m : Around) (seen : Seen) (a : Surroundings) → KnownKeeps k m → Sees k seen a → Sees m seen a
+sees_kept k m seen a keeps s =
     record {
       block = ap (λ (z : Names). z.block) keeps.innermost ∙ s.block;
       depth = ap (λ (z : List Names). length z) keeps.outer ∙ s.depth;
@@ -86,128 +84,128 @@ sees-kept k m seen a keeps s =
           λ q.
           let P : Option Entry → Type 0 = λ z. NameIsFound m.procedures.items z (look_up a.known q) in
           subst P (sym (same_lookup k m seen q keeps.innermost keeps.outer))
-          (found-extends k.procedures.items m.procedures.items (looked_up (open_blocks k) seen q) (look_up a.known q) keeps.procedures (s.names q));
+          (found_extends k.procedures.items m.procedures.items (looked_up (open_blocks k) seen q) (look_up a.known q) keeps.procedures (s.names q));
     }
 
-pub holds-kept : (k m : Around) (a : Surroundings) → KnownKeeps k m → KnownHolds k a → KnownHolds m a
-holds-kept k m a keeps h =
+pub holds_kept : (k m : Around) (a : Surroundings) → KnownKeeps k m → KnownHolds k a → KnownHolds m a
+holds_kept k m a keeps h =
     record {
       here =
           λ q.
           let P : Names → Type 0 = λ z. NameIsFound m.procedures.items (seen_under z.declared z.parameters seens.All q) (look_up (own_declared a) q) in
           subst P (sym keeps.innermost)
-          (found-extends k.procedures.items m.procedures.items (seen_under k.innermost.declared k.innermost.parameters seens.All q) (look_up (own_declared a) q)
+          (found_extends k.procedures.items m.procedures.items (seen_under k.innermost.declared k.innermost.parameters seens.All q) (look_up (own_declared a) q)
           keeps.procedures (h.here q));
     }
 
-pub keeps-none : (k : Around) → KnownKeeps k k
-keeps-none k = record { innermost = refl; outer = refl; procedures = extends-none k.procedures.items }
+pub keeps_none : (k : Around) → KnownKeeps k k
+keeps_none k = record { innermost = refl; outer = refl; procedures = extends_none k.procedures.items }
 
-pub keeps-then : (k m n : Around) → KnownKeeps k m → KnownKeeps m n → KnownKeeps k n
-keeps-then k m n x y =
+pub keeps_then : (k m n : Around) → KnownKeeps k m → KnownKeeps m n → KnownKeeps k n
+keeps_then k m n x y =
     record {
       innermost = y.innermost ∙ x.innermost;
       outer = y.outer ∙ x.outer;
-      procedures = extends-then k.procedures.items m.procedures.items n.procedures.items x.procedures y.procedures;
+      procedures = extends_then k.procedures.items m.procedures.items n.procedures.items x.procedures y.procedures;
     }
 
-pub keeps-same : (k m : Around) → m ≡ k → KnownKeeps k m
-keeps-same k m h = let P : Around → Type 0 = λ z. KnownKeeps k z in subst P (sym h) (keeps-none k)
+pub keeps_same : (k m : Around) → m ≡ k → KnownKeeps k m
+keeps_same k m h = let P : Around → Type 0 = λ z. KnownKeeps k z in subst P (sym h) (keeps_none k)
 
 -- ---- where the walk stands
 
-pub before-more : (m n : ℕ) (ds : List Declared) → m ≤ n → AreBefore m ds → AreBefore n ds
-before-more m n [] h b = tt
-before-more m n (d ∷ ds) h b = (less-le d.block m n b.0 h, before-more m n ds h b.1)
+pub before_more : (m n : ℕ) (ds : List Declared) → m ≤ n → AreBefore m ds → AreBefore n ds
+before_more m n [] h b = tt
+before_more m n (d ∷ ds) h b = (less_le d.block m n b.0 h, before_more m n ds h b.1)
 
-plus-le : (m n l : ℕ) → n ≡ m + l → m ≤ n
-plus-le m n l h = omega (arith, h)
+plus_le : (m n l : ℕ) → n ≡ m + l → m ≤ n
+plus_le m n l h = omega (arith, h)
 
-pub count-begins : (old new : Resolver) (inner : List Block) → new.blocks.items ≡ old.blocks.items ++ map stated_block_of inner →
+pub count_begins : (old new : Resolver) (inner : List Block) → new.blocks.items ≡ old.blocks.items ++ map stated_block_of inner →
     length new.blocks.items ≡ length old.blocks.items + length inner
-count-begins old new inner h =
+count_begins old new inner h =
     ap (λ z. length z) h ∙ length-append old.blocks.items (map stated_block_of inner) ∙ ap (λ z. length old.blocks.items + z) (length-map inner stated_block_of)
 
-pub stands-kept : (old new : Resolver) (a : Surroundings) (spots : List Spot) (inner : List Block) → KnownKeeps old.around new.around →
+pub stands_kept : (old new : Resolver) (a : Surroundings) (spots : List Spot) (inner : List Block) → KnownKeeps old.around new.around →
     new.blocks.items ≡ old.blocks.items ++ map stated_block_of inner → WalkStands old a spots → WalkStands new a spots
-stands-kept old new a spots inner keeps begins s =
+stands_kept old new a spots inner keeps begins s =
     let more : length old.blocks.items ≤ length new.blocks.items =
-    plus-le (length old.blocks.items) (length new.blocks.items) (length inner) (count-begins old new inner begins) in
+    plus_le (length old.blocks.items) (length new.blocks.items) (length inner) (count_begins old new inner begins) in
     record {
-      sees = sees-kept old.around new.around seens.All a keeps s.sees;
-      known = before-more (length old.blocks.items) (length new.blocks.items) a.known more s.known;
-      block = less-le a.block (length old.blocks.items) (length new.blocks.items) s.block more;
+      sees = sees_kept old.around new.around seens.All a keeps s.sees;
+      known = before_more (length old.blocks.items) (length new.blocks.items) a.known more s.known;
+      block = less_le a.block (length old.blocks.items) (length new.blocks.items) s.block more;
       outer = s.outer;
     }
 
-pub settles-kept : (blocks : List Block) (old new : Resolver) (a : Surroundings) (spots : List Spot) (first : List Declared) (inner : List Block) →
+pub settles_kept : (blocks : List Block) (old new : Resolver) (a : Surroundings) (spots : List Spot) (first : List Declared) (inner : List Block) →
     KnownKeeps old.around new.around → new.blocks.items ≡ old.blocks.items ++ map stated_block_of inner → WalkSettles blocks old a spots first →
     WalkSettles blocks new a spots first
-settles-kept blocks old new a spots first inner keeps begins s =
+settles_kept blocks old new a spots first inner keeps begins s =
     record {
-      stands = stands-kept old new a spots inner keeps begins s.stands;
-      holds = holds-kept old.around new.around a keeps s.holds;
-      bounds = sees-kept old.around new.around seens.BeforeDeclarations (record a { known = first }) keeps s.bounds;
+      stands = stands_kept old new a spots inner keeps begins s.stands;
+      holds = holds_kept old.around new.around a keeps s.holds;
+      bounds = sees_kept old.around new.around seens.BeforeDeclarations (record a { known = first }) keeps s.bounds;
       typed = λ q. ap (λ (z : Names). is_typed z.typed q) keeps.innermost ∙ s.typed q;
     }
 
 -- ---- blocks with numbers
 
-pub numbered-left : (blocks : List Block) (n : ℕ) (xs ys : List Block) → AreNumbered blocks n (xs ++ ys) → AreNumbered blocks n xs
-numbered-left blocks n [] ys h = tt
-numbered-left blocks n (x ∷ xs) ys h = (h.0, (h.1.0, numbered-left blocks (n + 1) xs ys h.1.1))
+pub numbered_left : (blocks : List Block) (n : ℕ) (xs ys : List Block) → AreNumbered blocks n (xs ++ ys) → AreNumbered blocks n xs
+numbered_left blocks n [] ys h = tt
+numbered_left blocks n (x ∷ xs) ys h = (h.0, (h.1.0, numbered_left blocks (n + 1) xs ys h.1.1))
 
-numbered-on : (blocks : List Block) (n : ℕ) (xs ys : List Block) → AreNumbered blocks n (xs ++ ys) → AreNumbered blocks (n + length xs) ys
-numbered-on blocks n [] ys h =
+numbered_on : (blocks : List Block) (n : ℕ) (xs ys : List Block) → AreNumbered blocks n (xs ++ ys) → AreNumbered blocks (n + length xs) ys
+numbered_on blocks n [] ys h =
     let e : n ≡ n + 0 = omega arith in
     let P : ℕ → Type 0 = λ z. AreNumbered blocks z ys in subst P e h
-numbered-on blocks n (x ∷ xs) ys h =
+numbered_on blocks n (x ∷ xs) ys h =
     let e : n + 1 + length xs ≡ n + length (x ∷ xs) = omega arith in
-    let P : ℕ → Type 0 = λ z. AreNumbered blocks z ys in subst P e (numbered-on blocks (n + 1) xs ys h.1.1)
+    let P : ℕ → Type 0 = λ z. AreNumbered blocks z ys in subst P e (numbered_on blocks (n + 1) xs ys h.1.1)
 
-pub numbered-right : (blocks : List Block) (old new : Resolver) (xs ys : List Block) → new.blocks.items ≡ old.blocks.items ++ map stated_block_of xs →
+pub numbered_right : (blocks : List Block) (old new : Resolver) (xs ys : List Block) → new.blocks.items ≡ old.blocks.items ++ map stated_block_of xs →
     AreNumbered blocks (length old.blocks.items) (xs ++ ys) → AreNumbered blocks (length new.blocks.items) ys
-numbered-right blocks old new xs ys begins h =
+numbered_right blocks old new xs ys begins h =
     let P : ℕ → Type 0 = λ z. AreNumbered blocks z ys in
-    subst P (sym (count-begins old new xs begins)) (numbered-on blocks (length old.blocks.items) xs ys h)
+    subst P (sym (count_begins old new xs begins)) (numbered_on blocks (length old.blocks.items) xs ys h)
 
 -- ---- parts one after another
 
-pub comes-then : (blocks : List Block) (old mid new : Resolver) (xs ys : List Site) (bs cs : List Block) → WalkComes blocks old mid xs bs →
+pub comes_then : (blocks : List Block) (old mid new : Resolver) (xs ys : List Site) (bs cs : List Block) → WalkComes blocks old mid xs bs →
     WalkComes blocks mid new ys cs → WalkComes blocks old new (xs ++ ys) (bs ++ cs)
-comes-then blocks old mid new xs ys bs cs c d =
+comes_then blocks old mid new xs ys bs cs c d =
     record {
-      finds = finds-then blocks old.findings mid.findings new.findings xs ys c.finds d.finds;
+      finds = finds_then blocks old.findings mid.findings new.findings xs ys c.finds d.finds;
       begins = added stated_block_of old.blocks.items mid.blocks.items new.blocks.items bs cs c.begins d.begins;
     }
 
-pub visits-then : (old mid new : Resolver) (f g : List Block → Surroundings → List Site) (b c : List Spot → List Block) → Visits old mid f b → Visits mid new g c →
+pub visits_then : (old mid new : Resolver) (f g : List Block → Surroundings → List Site) (b c : List Spot → List Block) → Visits old mid f b → Visits mid new g c →
     Visits old new (λ blocks a. f blocks a ++ g blocks a) (λ spots. b spots ++ c spots)
-visits-then old mid new f g b c v w =
+visits_then old mid new f g b c v w =
     record {
-      keeps = keeps-then old.around mid.around new.around v.keeps w.keeps;
+      keeps = keeps_then old.around mid.around new.around v.keeps w.keeps;
       comes =
           λ blocks a spots s n.
-          let one = v.comes blocks a spots s (numbered-left blocks (length old.blocks.items) (b spots) (c spots) n) in
-          comes-then blocks old mid new (f blocks a) (g blocks a) (b spots) (c spots) one
-          (w.comes blocks a spots (stands-kept old mid a spots (b spots) v.keeps one.begins s)
-          (numbered-right blocks old mid (b spots) (c spots) one.begins n));
+          let one = v.comes blocks a spots s (numbered_left blocks (length old.blocks.items) (b spots) (c spots) n) in
+          comes_then blocks old mid new (f blocks a) (g blocks a) (b spots) (c spots) one
+          (w.comes blocks a spots (stands_kept old mid a spots (b spots) v.keeps one.begins s)
+          (numbered_right blocks old mid (b spots) (c spots) one.begins n));
     }
 
-pub visits-none : (r : Resolver) → Visits r r (λ blocks a. []) no_blocks
-visits-none r =
+pub visits_none : (r : Resolver) → Visits r r (λ blocks a. []) no_blocks
+visits_none r =
     record {
-      keeps = keeps-none r.around;
-      comes = λ blocks a spots s n. record { finds = adds-none r.findings; begins = sym (append-nil r.blocks.items) };
+      keeps = keeps_none r.around;
+      comes = λ blocks a spots s n. record { finds = adds_none r.findings; begins = sym (append-nil r.blocks.items) };
     }
 
 -- the same faults, cells, names and blocks in other words
-pub visits-as : (old new : Resolver) (f g : List Block → Surroundings → List Site) (b c : List Spot → List Block) →
+pub visits_as : (old new : Resolver) (f g : List Block → Surroundings → List Site) (b c : List Spot → List Block) →
     ((blocks : List Block) (a : Surroundings) → flat_map (faults_at blocks) (f blocks a) ≡ flat_map (faults_at blocks) (g blocks a)) →
     ((blocks : List Block) (a : Surroundings) → flat_map (cells_at blocks) (f blocks a) ≡ flat_map (cells_at blocks) (g blocks a)) →
     ((blocks : List Block) (a : Surroundings) → flat_map (known_at blocks) (f blocks a) ≡ flat_map (known_at blocks) (g blocks a)) →
     ((spots : List Spot) → b spots ≡ c spots) → Visits old new f b → Visits old new g c
-visits-as old new f g b c p q r same v =
+visits_as old new f g b c p q r same v =
     record {
       keeps = v.keeps;
       comes =
@@ -221,11 +219,11 @@ visits-as old new f g b c p q r same v =
     }
 
 -- what is found by what is known around
-pub visits-walk : (old new : Resolver) (f : Surroundings → List Site) → ScopeWalks old.around seens.All old.findings new.findings f → new.around ≡ old.around →
+pub visits_walk : (old new : Resolver) (f : Surroundings → List Site) → ScopeWalks old.around seens.All old.findings new.findings f → new.around ≡ old.around →
     new.blocks ≡ old.blocks → Visits old new (λ blocks. f) no_blocks
-visits-walk old new f w around same =
+visits_walk old new f w around same =
     record {
-      keeps = keeps-same old.around new.around around;
+      keeps = keeps_same old.around new.around around;
       comes =
           λ blocks a spots s n.
           record {

@@ -19,12 +19,13 @@ use Rattle.algol_tree.specs.Surroundings.{Surroundings, formals_at}
 use Rattle.algol_tree.specs.Sites.{Site, sites, inside_list, inside_actuals}
 use Rattle.algol_tree.specs.Cells.{cells_at}
 use Rattle.algol_tree.specs.Couples.{known_at}
+use Rattle.algol_tree.proofs.Images.{call_is}
 use Rattle.algol_known.specs.declared.known.Seen.{Seen}
 use Rattle.algol_known.specs.declared.around.Around.{Around}
-use Rattle.algol_known.proofs.Plain.{expr_variable, call_is, expr_two, expr_if}
+use Rattle.algol_known.proofs.Plain.{expr_variable, expr_two, expr_if}
 use Rattle.algol_scope.specs.declared.findings.Findings.{Findings}
-use Rattle.algol_scope.specs.Noting.{ScopeFinds, ScopeWalks, at_name, faults_at}
-use Rattle.algol_scope.proofs.Walking.{Leads, Follows, again, adds-none, finds-then, follows-step, leads-end, walks-of}
+use Rattle.algol_scope.specs.Noting.{ScopeWalks, at_name, faults_at}
+use Rattle.algol_scope.proofs.Walking.{Leads, Follows, again, adds_none, finds_then, follows_step, leads_end, walks_of}
 
 -- ---- what waits, the next one last
 
@@ -47,9 +48,6 @@ abbrev pub Under : Expr → List (Bor Expr) → Type 0
 Under e [] = Unit {0}
 Under e (r ∷ rs) = (size-Expr r.now < size-Expr e) × Under e rs
 
-pub under_none : (e : Expr) (rs : List (Bor Expr)) → rs ≡ [] → Under e rs
-under_none e rs h = subst (Under e) (sym h) tt
-
 under_append : (e : Expr) (rs : List (Bor Expr)) (r : Bor Expr) → Under e rs → size-Expr r.now < size-Expr e → Under e (rs ++ r ∷ [])
 under_append e [] r u h = (h, tt)
 under_append e (x ∷ rs) r u h = (u.0, under_append e rs r u.1 h)
@@ -67,14 +65,6 @@ under_last e old rs r is u = under_split e rs r (subst (Under e) is u)
 -- ---- how far the walk has come
 
 module _ (k : Around) (seen : Seen) (old : Findings) where
-  pub at_first : (e : Expr) (rs : List (Bor Expr)) → rs ≡ [] → Follows k seen old old (sites (expr e)) (left_over e rs)
-  at_first e rs h = record {
-    leads = λ blocks a s new f.
-        let same : left_over e rs a ≡ sites (expr e) a = ap (λ z. sites (expr e) a ++ waiting_parts z a) h ∙ append-nil (sites (expr e) a) in
-        let P : List Site → Type 0 = λ z. ScopeFinds blocks old z new in
-        subst P same f;
-  }
-
   module _ (now : Findings) (all : Surroundings → List Site) where
     abbrev Stands : Findings → PExpr → List (Bor Expr) → Type 0
     Stands f p rs = Follows k seen old f all (λ a. sites p a ++ waiting_parts rs a)
@@ -150,8 +140,8 @@ module _ (k : Around) (seen : Seen) (old : Findings) where
               (again blocks now last ((sites (expr u) a ++ sites (expr v) a) ++ (sites (expr w) a ++ waiting_parts rs a))
               (sites (tree.if (expr u) (expr v) (expr w) spot) a ++ waiting_parts rs a)
               (ap (flat_map (faults_at blocks)) same) (ap (flat_map (cells_at blocks)) same) (ap (flat_map (known_at blocks)) same)
-              (finds-then blocks now two last (sites (expr u) a ++ sites (expr v) a) (sites (expr w) a ++ waiting_parts rs a)
-              (finds-then blocks now one two (sites (expr u) a) (sites (expr v) a) (walked.finds blocks a s) (passed.finds blocks a s)) f));
+              (finds_then blocks now two last (sites (expr u) a ++ sites (expr v) a) (sites (expr w) a ++ waiting_parts rs a)
+              (finds_then blocks now one two (sites (expr u) a) (sites (expr v) a) (walked.finds blocks a s) (passed.finds blocks a s)) f));
         }
 
     -- an expression of which nothing is left
@@ -159,7 +149,7 @@ module _ (k : Around) (seen : Seen) (old : Findings) where
         Follows k seen old last all (waiting_parts rs)
     comes_back_as new last rs e w l is =
         let P : Findings → Type 0 = λ z. Follows k seen old z all (waiting_parts rs) in
-        subst P (sym is) (follows-step k seen old now new all (sites (expr e)) (waiting_parts rs) l w)
+        subst P (sym is) (follows_step k seen old now new all (sites (expr e)) (waiting_parts rs) l w)
 
     -- the one that waits least
     pub taken_up : (new : Findings) (rs qs : List (Bor Expr)) (r : Bor Expr) → rs ≡ qs ++ r ∷ [] → ScopeWalks k seen now new (sites (expr r.now)) →
@@ -170,13 +160,13 @@ module _ (k : Around) (seen : Seen) (old : Findings) where
               let P : List Site → Type 0 = λ z. Leads blocks old (all a) now z in
               subst P (ap (λ z. waiting_parts z a) is ∙ one_more qs r a) (l.leads blocks a s);
         } in
-        follows-step k seen old now new all (sites (expr r.now)) (waiting_parts qs) moved w
+        follows_step k seen old now new all (sites (expr r.now)) (waiting_parts qs) moved w
 
     pub none_waits : (rs : List (Bor Expr)) → rs ≡ [] → Follows k seen old now all (waiting_parts rs) → ScopeWalks k seen old now all
     none_waits rs is l = record {
       finds = λ blocks a s.
           let P : List (Bor Expr) → Type 0 = λ z. Leads blocks old (all a) now (waiting_parts z a) in
-          leads-end blocks old now (all a) (subst P is (l.leads blocks a s));
+          leads_end blocks old now (all a) (subst P is (l.leads blocks a s));
     }
 
 pub none_left : (rs : List (Bor Expr)) → length rs ≡ 0 → rs ≡ []
@@ -189,8 +179,8 @@ module _ (k : Around) (seen : Seen) (old : Findings) where
   walks_none : (e : Expr) (p : PExpr) → expr e ≡ p → ((blocks : List Block) (a : Surroundings) →
       ([] ≡ flat_map (faults_at blocks) (sites p a)) × (([] ≡ flat_map (cells_at blocks) (sites p a)) × ([] ≡ flat_map (known_at blocks) (sites p a)))) →
       ScopeWalks k seen old old (sites (expr e))
-  walks_none e p h same = walks-of k seen old old (expr e) p h (record {
-    finds = λ blocks a s. let eq = same blocks a in again blocks old old [] (sites p a) eq.0 eq.1.0 eq.1.1 (adds-none old);
+  walks_none e p h same = walks_of k seen old old (expr e) p h (record {
+    finds = λ blocks a s. let eq = same blocks a in again blocks old old [] (sites p a) eq.0 eq.1.0 eq.1.1 (adds_none old);
   })
 
   pub walks_number : (e : Expr) (z : ℤ) (spot : Spot) → e ≡ expression.Number z spot → ScopeWalks k seen old old (sites (expr e))
@@ -205,7 +195,7 @@ module _ (k : Around) (seen : Seen) (old : Findings) where
 
   pub walks_variable : (new : Findings) (e : Expr) (v : Variable) → e ≡ expression.Variable v →
       ScopeWalks k seen old new (λ a. at_name v.name a ∷ inside_list (exprs v.subs) a) → ScopeWalks k seen old new (sites (expr e))
-  walks_variable new e v h w = walks-of k seen old new (expr e) (tree.variable (tree.subscripted v.name (exprs v.subs))) (expr_variable e v h) (record {
+  walks_variable new e v h w = walks_of k seen old new (expr e) (tree.variable (tree.subscripted v.name (exprs v.subs))) (expr_variable e v h) (record {
     finds = λ blocks a s.
         again blocks old new (at_name v.name a ∷ inside_list (exprs v.subs) a) (sites (tree.variable (tree.subscripted v.name (exprs v.subs))) a) refl refl refl (w.finds blocks a s);
   })
@@ -214,7 +204,7 @@ module _ (k : Around) (seen : Seen) (old : Findings) where
       ScopeWalks k seen old new (λ a. at_name d.name a ∷ inside_actuals (exprs d.actuals) (formals_at a d.name) a) → ScopeWalks k seen old new (sites (expr e))
   walks_called new e d h w =
       let image : expr (expression.Call d) ≡ tree.call (call d) = search (rules, expressions.the_lemmas) in
-      walks-of k seen old new (expr e) (tree.call (tree.called d.name (exprs d.actuals))) (ap expr h ∙ image ∙ ap (λ z. tree.call z) (call_is d)) (record {
+      walks_of k seen old new (expr e) (tree.call (tree.called d.name (exprs d.actuals))) (ap expr h ∙ image ∙ ap (λ z. tree.call z) (call_is d)) (record {
         finds = λ blocks a s.
             again blocks old new (at_name d.name a ∷ inside_actuals (exprs d.actuals) (formals_at a d.name) a) (sites (tree.call (tree.called d.name (exprs d.actuals))) a)
             refl refl refl (w.finds blocks a s);

@@ -8,16 +8,11 @@ use Rattle.algol_run.specs.Stepping.{RunStep, ended, not_able, went, chosen_by, 
 use Rattle.algol_run.specs.declared.stepping.Stepped.{Stepped}
 use Rattle.algol_run.specs.declared.stepping.Stepped.TheVariants as stepped
 use Rattle.b67_race.specs.Entries.{Signal, Access, Done}
+use Rattle.b67_list.proofs.Numbers.{absurd_truth}
 use Rattle.algol_seen.specs.Accesses.{access_in, acting_in, signal_after, next_access, next_signal, done_of}
 use Rattle.algol_seen.specs.Seen as seen
 use Rattle.algol_seen.specs.Seen.{told_done, SeenStep, ProcessIsSeen}
 use Rattle.algol_seen.specs.declared.seen.Seen.{Seen}
-
-pub never : {A : Type 0} → true ≡ false → A
-never e = absurd (no e)
-  where
-    no : true ≡ false → ⊥
-    no f = cc
 
 -- ---- a step that goes, and one that does not
 
@@ -84,7 +79,7 @@ module _
   goes_so t e some is end = by (may_go v p) refl e
     where
       by : (may : Bool) → may_go v p ≡ may → t ≡ step_by may (choice sc v p) → ProcessIsSeen sc v p x.world s
-      by false m f = never (sym some ∙ ap is_step f)
+      by false m f = absurd_truth (sym some ∙ ap is_step f)
       by true m f =
           record {
             may = m;

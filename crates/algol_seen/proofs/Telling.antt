@@ -29,10 +29,10 @@ use Rattle.algol_effect.specs.Effects.{followed_in}
 use Rattle.algol_laws.specs.Kept.{stored_by, stored_in, stored_cells}
 use Rattle.algol_laws.specs.Reading.{read_by, read_in, read_cells}
 use Rattle.b67_race.specs.Entries.{Signal, nothing, goes_by, Access}
+use Rattle.b67_list.proofs.Numbers.{absurd_truth}
 use Rattle.algol_seen.specs.Accesses as accesses
 use Rattle.algol_seen.specs.Accesses.{whole_cell, access_by, access_in, acting_by, acting_in, signal_of, first_signal, gone_by, several_signal, signal_after, next_access, next_signal, goes_if, takes_if, frees_if}
 use Rattle.algol_seen.specs.Laws.{holder, IsOneOf, letter_by_access, is_of_whole, IsSignal, EachAccessIsTold, EachSignalIsTold}
-use Rattle.algol_seen.proofs.Steps.{never}
 
 abbrev is_cause : Letter → Bool
 is_cause letter.Cause = true
@@ -61,7 +61,7 @@ read_told r (Some k) before = (refl, refl, λ e. inr (inl refl))
 
 stored_told : (r : Reference) (m : Option ℕ) → Told (accesses.access_at_element r m true) letter.ElementStore (r ∷ []) []
 stored_told r None = refl
-stored_told r (Some k) = (refl, refl, λ e. never e)
+stored_told r (Some k) = (refl, refl, λ e. absurd_truth e)
 
 module _ (sc : Scopes) (w : World) (p : ℕ) (q : Process) (part : Part) (outer : List Part) where
   cell_told : (r : Reference) (c : Cell) → Told (accesses.read_of r c) (choices.read_of sc w p q part outer c).action [] (r ∷ by_cell c r ∷ [])
@@ -78,8 +78,8 @@ module _ (sc : Scopes) (w : World) (p : ℕ) (q : Process) (part : Part) (outer 
 
   place_told : (x : Place) (v : Value) →
       Told (accesses.stored_at sc w part.instance x) (choices.stored sc w p q part outer x v).action (stored_by sc w p q part outer (asks.stores x v)) []
-  place_told (own n) v = (refl, refl, λ e. never e)
-  place_told (there r) v = (refl, refl, λ e. never e)
+  place_told (own n) v = (refl, refl, λ e. absurd_truth e)
+  place_told (there r) v = (refl, refl, λ e. absurd_truth e)
   place_told (element_of r ks) v = stored_told r (accesses.element_number_in (array_in (cell_at w r)) ks)
 
   -- ---- the other choices
@@ -248,7 +248,7 @@ module _ (w : World) where
   after_nothing letter.End (Some r) e = inr refl
   after_nothing letter.Fault o e = λ f. cc
   after_nothing letter.Wait o e = λ f. cc
-  after_nothing letter.Cause o e = never e
+  after_nothing letter.Cause o e = absurd_truth e
   after_nothing letter.Reset o e = λ f. cc
   after_nothing letter.Happened o e = λ f. cc
   after_nothing letter.Procure o e = λ f. cc

@@ -1,5 +1,5 @@
 -- Expressions in lists, and actuals with their parameters, as the walk notes them.
-use Rattle.std.proofs.Common.{◌≡◌, ℕ, ◌+◌, ◌<◌, ◌≤◌, Bool, true, false, List, [], ◌∷◌, map, length, drop, get_or, Option, Some, None, refl, ap, sym, ◌∙◌, arith, drop-cons, subst, zero, suc}
+use Rattle.std.proofs.Common.{◌≡◌, ℕ, ◌+◌, ◌<◌, ◌≤◌, Bool, true, false, List, [], ◌∷◌, map, length, drop, get_or, Option, Some, None, refl, ap, sym, ◌∙◌, arith, subst, zero, suc}
 use Rattle.std.specs.Prelude.{◌==◌, ◌&&◌, not, if◌then◌else◌, slice_get, is_some}
 use Rattle.algol_tree.specs.declared.token.Spot.{Spot}
 use Rattle.algol_tree.specs.declared.refusal.Code.TheVariants as codes
@@ -23,6 +23,8 @@ use Rattle.algol_tree.proofs.Alone.{named_alone}
 use Rattle.algol_sorts.specs.declared.sort.Sort.{Sort}
 use Rattle.algol_sorts.specs.declared.sort.Sort.TheVariants as sorts
 use Rattle.algol_frames.specs.declared.scopes.Scopes.{Scopes}
+use Rattle.algol_rules.proofs.Order.{noted_all_append}
+use Rattle.b67_list.proofs.Lists.{drop_past, drop_read}
 use Rattle.algol_sites.specs.declared.wanted.Wanted.{Wanted}
 use Rattle.algol_sites.specs.declared.wanted.Wanted.TheVariants as wanted
 use Rattle.algol_sites.specs.Seen.{classes_of, formal_as, formal_for, value_of}
@@ -30,20 +32,15 @@ use Rattle.algol_sites.specs.Seeing.{TellsEach, TellsIn}
 use Rattle.algol_sites.specs.Noting.{rule_broken, broken_if, mistyped, mistyped_for, mistyped_list, noted_at, noted_in}
 use Rattle.algol_sites.specs.Wanting.{is_met, unfit}
 use Rattle.algol_sites.specs.Expressing.{is_alone, misplaced, misplaced_by, misplaced_if, noted_actual, reference_of}
-use Rattle.algol_sites.proofs.Notes.{noted_all-append, noted_along-append}
-
-pub split : {A : Type 0} (xs : List A) (i : ℕ) (x : A) → i < length xs → x ≡ get_or xs i x → drop i xs ≡ x ∷ drop (i + 1) xs
-split xs i x h e =
-    let next : suc i ≡ i + 1 = omega arith in
-    drop-cons xs i x h ∙ ap (λ y. y ∷ drop (suc i) xs) (sym e) ∙ ap (λ n. x ∷ drop n xs) next
+use Rattle.algol_sites.proofs.Notes.{noted_along_append}
 
 -- one more expression of a list
 pub list_step : (es : List Expr) (i : ℕ) (e : Expr) (a : Surroundings) (f g : Option Fault) → i < length es → e ≡ get_or es i e →
     g ≡ noted_in f (sites (expr e) a) → noted_in g (inside_list (exprs (drop (i + 1) es)) a) ≡ noted_in f (inside_list (exprs (drop i es)) a)
 list_step es i e a f g h p q =
     ap (λ o. noted_in o (inside_list (exprs (drop (i + 1) es)) a)) q
-    ∙ sym (noted_along-append [] f (sites (expr e) a) (inside_list (exprs (drop (i + 1) es)) a))
-    ∙ sym (ap (λ xs. noted_in f (inside_list (exprs xs) a)) (split es i e h p))
+    ∙ sym (noted_along_append [] f (sites (expr e) a) (inside_list (exprs (drop (i + 1) es)) a))
+    ∙ sym (ap (λ xs. noted_in f (inside_list (exprs xs) a)) (drop_read es i e h p))
 
 -- ---- whether a parameter is by value makes no difference
 
@@ -71,11 +68,11 @@ alike (tree.more e es) (f ∷ fs) [] a h p = cc
 alike (tree.more e es) (f ∷ fs) (g ∷ gs) a h p =
     let head : f.class ≡ g.class = cc in
     let tail : classes_of fs ≡ classes_of gs = cc in
-    noted_along-append [] (after h e (Some f) a) (inside_expr e a) (inside_actuals es fs a)
+    noted_along_append [] (after h e (Some f) a) (inside_expr e a) (inside_actuals es fs a)
     ∙ alike es fs gs a (noted_in (after h e (Some f) a) (inside_expr e a)) tail
     ∙ ap (λ o. noted_in (noted_in o (inside_expr e a)) (inside_actuals es gs a))
     (after_alike h e f a ∙ ap (λ c. after h e (of_class c) a) head ∙ sym (after_alike h e g a))
-    ∙ sym (noted_along-append [] (after h e (Some g) a) (inside_expr e a) (inside_actuals es gs a))
+    ∙ sym (noted_along_append [] (after h e (Some g) a) (inside_expr e a) (inside_actuals es gs a))
 
 -- ---- one more actual
 
@@ -121,7 +118,7 @@ one_more : (e : PExpr) (es : PExprs) (fs : List rules'.Formal) (o : Option Sort)
     noted_in h (inside_actuals (tree.more e es) fs a) ≡
     noted_in (if is_alone e o then noted_actual h e o a else noted_in (noted_actual h e o a) (sites e a)) (inside_actuals es (other_formals fs) a)
 one_more e es fs o h a p =
-    noted_along-append [] (after h e (first_formal fs) a) (inside_expr e a) (inside_actuals es (other_formals fs) a)
+    noted_along_append [] (after h e (first_formal fs) a) (inside_expr e a) (inside_actuals es (other_formals fs) a)
     ∙ ap (λ f. noted_in (noted_in (after h e f a) (inside_expr e a)) (inside_actuals es (other_formals fs) a)) p
     ∙ ap (λ f. noted_in f (inside_actuals es (other_formals fs) a)) (part_noted (name_alone e) e o (noted_actual h e o a) a refl)
 
@@ -136,7 +133,7 @@ actual_step es i e gs o a f g h p q r =
     ∙ ap (λ fs. noted_in (if is_alone (expr e) o then noted_actual f (expr e) o a else noted_in (noted_actual f (expr e) o a) (sites (expr e) a))
     (inside_actuals (exprs (drop (i + 1) es)) fs a)) (sym (others_at (map formal_as gs) i ∙ ap (λ n. drop n (map formal_as gs)) next))
     ∙ sym (one_more (expr e) (exprs (drop (i + 1) es)) (drop i (map formal_as gs)) o f a (first_at gs i ∙ ap formal_for (sym q)))
-    ∙ sym (ap (λ xs. noted_in f (inside_actuals (exprs xs) (drop i (map formal_as gs)) a)) (split es i e h p))
+    ∙ sym (ap (λ xs. noted_in f (inside_actuals (exprs xs) (drop i (map formal_as gs)) a)) (drop_read es i e h p))
 
 -- the two ways on
 pub valued : (b : Bool) (h v : Option Fault) → b ≡ false → v ≡ (if b then h else v)
@@ -147,15 +144,9 @@ alone b h v p = ap (λ c. if c then h else v) (sym p)
 
 -- ---- after the last
 
-dropped : {A : Type 0} (xs : List A) (i : ℕ) → length xs ≤ i → drop i xs ≡ []
-dropped [] zero h = refl
-dropped [] (suc i) h = refl
-dropped (x ∷ xs) zero h = absurd (omega arith)
-dropped (x ∷ xs) (suc i) h = dropped xs i (omega arith)
-
 pub none_left : (es : List Expr) (i : ℕ) (fs : List rules'.Formal) (a : Surroundings) (f : Option Fault) → length es ≤ i →
     f ≡ noted_in f (inside_actuals (exprs (drop i es)) fs a)
-none_left es i fs a f h = sym (ap (λ xs. noted_in f (inside_actuals (exprs xs) fs a)) (dropped es i h))
+none_left es i fs a f h = sym (ap (λ xs. noted_in f (inside_actuals (exprs xs) fs a)) (drop_past es i h))
 
 -- ---- what an actual breaks for its parameter
 
@@ -204,7 +195,7 @@ actual_wanted e o a f g h p q = q ∙ ap (λ x. noted_all x (misplaced_if (refer
 
 pub each_split : (s : Scopes) (a : Surroundings) (es : List Expr) (i : ℕ) (e : Expr) → i < length es → e ≡ get_or es i e → TellsEach s a (exprs (drop i es)) →
     TellsIn s a (expr e) × TellsEach s a (exprs (drop (i + 1) es))
-each_split s a es i e h p t = let P : List Expr → Type 0 = λ xs. TellsEach s a (exprs xs) in subst P (split es i e h p) t
+each_split s a es i e h p t = let P : List Expr → Type 0 = λ xs. TellsEach s a (exprs xs) in subst P (drop_read es i e h p) t
 
 pub list_end : (es : List Expr) (i : ℕ) (a : Surroundings) (f g : Option Fault) → drop i es ≡ [] →
     noted_in f (inside_list (exprs (drop i es)) a) ≡ g → f ≡ g
@@ -215,8 +206,8 @@ pub numbers_step : (es : List Expr) (i : ℕ) (e : Expr) (a : Surroundings) (f g
     noted_all g (mistyped_list (exprs (drop (i + 1) es)) a) ≡ noted_all f (mistyped_list (exprs (drop i es)) a)
 numbers_step es i e a f g h p q =
     ap (λ o. noted_all o (mistyped_list (exprs (drop (i + 1) es)) a)) q
-    ∙ sym (noted_all-append f (mistyped kinds.Number (expr e) a) (mistyped_list (exprs (drop (i + 1) es)) a))
-    ∙ sym (ap (λ xs. noted_all f (mistyped_list (exprs xs) a)) (split es i e h p))
+    ∙ sym (noted_all_append f (mistyped kinds.Number (expr e) a) (mistyped_list (exprs (drop (i + 1) es)) a))
+    ∙ sym (ap (λ xs. noted_all f (mistyped_list (exprs xs) a)) (drop_read es i e h p))
 
 pub numbers_end : (es : List Expr) (i : ℕ) (a : Surroundings) (f g : Option Fault) → drop i es ≡ [] →
     noted_all f (mistyped_list (exprs (drop i es)) a) ≡ g → f ≡ g

@@ -18,13 +18,14 @@ use Rattle.algol_tree.specs.Image.{expr, exprs, variable}
 use Rattle.algol_tree.specs.Classes.{Class}
 use Rattle.algol_tree.specs.Surroundings.{Surroundings, class_of}
 use Rattle.algol_tree.specs.Types.{result_type, type_of}
+use Rattle.algol_tree.proofs.Images.{if_image, neg_image, not_image, paren_image, plus_image, two_image, variable_is}
 use Rattle.algol_sorts.specs.declared.sort.Sort.{Sort}
 use Rattle.algol_frames.specs.declared.scopes.Scopes.{Scopes}
 use Rattle.algol_told.specs.Telling.{ScopesTell}
 use Rattle.algol_sites.specs.Noting.{type_by}
 use Rattle.algol_sites.specs.Seen.{class_seen, sort_there}
 use Rattle.algol_sites.specs.Seeing.{TellsEach, TellsEvents, TellsIn}
-use Rattle.algol_sites.proofs.Parts.{call_image, if_image, two_image, variable_is}
+use Rattle.algol_sites.proofs.Parts.{call_image}
 use Rattle.algol_sites.proofs.Seen.{Resembles, class_told}
 
 -- ---- the plain trees
@@ -46,18 +47,6 @@ fix_image x spot = search (rules, expressions.the_lemmas)
 
 pub waited_image : (es : List EventName) (spot : Spot) → expr (expressions.WaitAny es spot) ≡ tree.tested test.WaitAny es spot
 waited_image es spot = search (rules, expressions.the_lemmas)
-
-pub paren_image : (x : Box Expr Global) (spot : Spot) → expr (expressions.Paren x spot) ≡ tree.paren (expr x.value) spot
-paren_image x spot = search (rules, expressions.the_lemmas)
-
-pub plus_image : (x : Box Expr Global) (spot : Spot) → expr (expressions.Plus x spot) ≡ tree.plus (expr x.value) spot
-plus_image x spot = search (rules, expressions.the_lemmas)
-
-pub neg_image : (x : Box Expr Global) (spot : Spot) → expr (expressions.Neg x spot) ≡ tree.neg (expr x.value) spot
-neg_image x spot = search (rules, expressions.the_lemmas)
-
-pub not_image : (x : Box Expr Global) (spot : Spot) → expr (expressions.Not x spot) ≡ tree.not (expr x.value) spot
-not_image x spot = search (rules, expressions.the_lemmas)
 
 -- ---- what is told, by the form
 

@@ -10,6 +10,7 @@ use Rattle.algol_tree.specs.Blocks.{same_spot}
 use Rattle.algol_tree.specs.Labels as rules'
 use Rattle.algol_tree.specs.Labels.{bad_labels}
 use Rattle.algol_tree.specs.Sites.{Site}
+use Rattle.algol_tree.proofs.Spots.{same_spot_is}
 use Rattle.algol_sites.specs.declared.label.Standing.{Standing}
 use Rattle.algol_sites.specs.Noting.{rule_broken, broken_if}
 use Rattle.algol_sites.specs.Labelling.{standing_as, standings_at, labels_at, those_of, away, label_again, bad_at, bad_in}
@@ -81,9 +82,6 @@ labels_told xs all spots p q =
 
 -- ---- the standings of each label, gathered one after the other
 
-same_place : (a b : Spot) → same_spot a b ≡ true → a ≡ b
-same_place a b h = grind arith
-
 one_more : (b : Bool) (s : Standing) (all old new both rest : List Standing) → (b ≡ true → all ≡ old) → new ≡ (if b then [] else old) →
     both ≡ (if b then all ++ s ∷ [] else new) → both ++ rest ≡ old ++ (if b then s ∷ rest else rest)
 one_more true s all old new both rest k n e = ap (λ z. z ++ rest) e ∙ append_assoc all (s ∷ []) rest ∙ ap (λ z. z ++ s ∷ rest) (k refl)
@@ -97,5 +95,5 @@ gathered places ss i d q new both h n b =
     let s = get_or ss i d in
     let next : suc i ≡ i + 1 = omega arith in
     let at : drop i ss ≡ s ∷ drop (i + 1) ss = drop-cons ss i d h ∙ ap (λ k. s ∷ drop k ss) next in
-    one_more (same_spot s.declared q) s (places s.declared) (places q) new both (those_of (drop (i + 1) ss) q) (λ t. ap places (same_place s.declared q t)) n b
+    one_more (same_spot s.declared q) s (places s.declared) (places q) new both (those_of (drop (i + 1) ss) q) (λ t. ap places (same_spot_is s.declared q t)) n b
     ∙ ap (λ xs. places q ++ those_of xs q) (sym at)

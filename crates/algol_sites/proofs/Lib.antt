@@ -19,4 +19,3 @@ pub mod Opened
 pub mod Headed
 pub mod Stood
 pub mod Checked
-pub mod Forwards

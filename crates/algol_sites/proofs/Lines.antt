@@ -1,5 +1,5 @@
 -- Numbers of formats, phrases, and how far a line has come.
-use Rattle.std.proofs.Common.{◌≡◌, ℕ, ◌+◌, ◌-◌, ◌*◌, ◌<◌, ◌≤◌, Bool, true, false, List, [], ◌∷◌, map, length, drop, get_or, Option, Some, None, refl, ap, sym, ◌∙◌, arith, nat_lt, suc, drop-cons}
+use Rattle.std.proofs.Common.{◌≡◌, ℕ, ◌+◌, ◌-◌, ◌*◌, ◌<◌, ◌≤◌, Bool, true, false, List, [], ◌∷◌, map, length, drop, get_or, Option, Some, None, refl, ap, sym, ◌∙◌, arith, nat_lt}
 use Rattle.std.proofs.lemmas.List.Sums.{sum_by-cons}
 use Rattle.std.specs.Prelude.{◌==◌, ◌&&◌, ◌||◌, if◌then◌else◌}
 use Rattle.std.specs.List.{list_all}
@@ -7,6 +7,7 @@ use Rattle.algol_tree.specs.declared.tree.PhraseText.{PhraseText}
 use Rattle.algol_tree.specs.declared.tree.PhraseText.TheVariants as texts
 use Rattle.algol_tree.specs.Spelling.{is_digit, is_number, value_of, value_after}
 use Rattle.algol_tree.specs.Phrases as rules'
+use Rattle.b67_list.proofs.Lists.{drop_read_or}
 use Rattle.algol_sites.specs.declared.line.Phrase.{Phrase}
 use Rattle.algol_sites.specs.declared.line.Phrase.TheVariants as phrase
 use Rattle.algol_sites.specs.Lining.{capped, line_number_in, phrase_seen, lettered, columns_seen, items_seen, is_none_seen, items_in, any_bad}
@@ -70,19 +71,14 @@ told_digit : (b : Bool) (d x : ℕ) → Some d ≡ (if b then Some x else None) 
 told_digit true d x e = (refl, (cc))
 told_digit false d x e = cc
 
-split : {A : Type 0} (xs : List A) (i : ℕ) (d : A) → i < length xs → drop i xs ≡ get_or xs i d ∷ drop (i + 1) xs
-split xs i d h =
-    let next : suc i ≡ i + 1 = omega arith in
-    drop-cons xs i d h ∙ ap (λ n. get_or xs i d ∷ drop n xs) next
-
 pub digits_step : (ds : List ℕ) (i n d m : ℕ) → i < length ds → Some d ≡ (if is_digit (get_or ds i 0) then Some (get_or ds i 0 - 48) else None) →
     m ≡ capped (capped (n * 10) + d) →
     (list_all is_digit (drop (i + 1) ds) ≡ list_all is_digit (drop i ds)) × (capped (value_after m (drop (i + 1) ds)) ≡ capped (value_after n (drop i ds)))
 digits_step ds i n d m h e q =
     let told = told_digit (is_digit (get_or ds i 0)) d (get_or ds i 0 - 48) e in
     let same : d ≡ get_or ds i 0 - 48 = told.1 in (
-      sym (ap (λ b. b && list_all is_digit (drop (i + 1) ds)) told.0) ∙ sym (ap (list_all is_digit) (split ds i 0 h)),
-      value_capped (drop (i + 1) ds) m (n * 10 + (get_or ds i 0 - 48)) (omega arith) ∙ sym (ap (λ xs. capped (value_after n xs)) (split ds i 0 h)),
+      sym (ap (λ b. b && list_all is_digit (drop (i + 1) ds)) told.0) ∙ sym (ap (list_all is_digit) (drop_read_or ds i 0 h)),
+      value_capped (drop (i + 1) ds) m (n * 10 + (get_or ds i 0 - 48)) (omega arith) ∙ sym (ap (λ xs. capped (value_after n xs)) (drop_read_or ds i 0 h)),
     )
 
 -- ---- one more phrase
@@ -119,7 +115,7 @@ pub record Step (ps : List PhraseText) (i : ℕ) (p : Phrase) : Type 0 where
 
 pub phrases_step : (ps : List PhraseText) (i : ℕ) (t : PhraseText) (p : Phrase) → i < length ps → t ≡ get_or ps i t → p ≡ phrase_seen (rules'.phrase_of t) → Step ps i p
 phrases_step ps i t p h e q =
-    let parts : drop i ps ≡ t ∷ drop (i + 1) ps = split ps i t h ∙ ap (λ x. x ∷ drop (i + 1) ps) (sym e) in
+    let parts : drop i ps ≡ t ∷ drop (i + 1) ps = drop_read_or ps i t h ∙ ap (λ x. x ∷ drop (i + 1) ps) (sym e) in
     let wide : capped (rules'.columns (rules'.phrase_of t)) ≡ columns_seen p = seen_columns (rules'.phrase_of t) ∙ ap columns_seen (sym q) in
     record {
       bad = ap any_bad parts ∙ ap (λ b. b || any_bad (drop (i + 1) ps)) (seen_none (rules'.phrase_of t) ∙ ap is_none_seen (sym q));

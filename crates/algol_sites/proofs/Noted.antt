@@ -18,11 +18,12 @@ use Rattle.algol_tree.specs.Image.{expr, exprs, variable}
 use Rattle.algol_tree.specs.Surroundings.{Surroundings, class_of}
 use Rattle.algol_tree.specs.Accepted.{noted_all}
 use Rattle.algol_tree.specs.Sites.{inside_list, sites}
+use Rattle.algol_tree.proofs.Images.{neg_image, not_image, paren_image, plus_image, variable_is}
 use Rattle.algol_sites.specs.Noting.{broken_if, mistyped, noted_in}
 use Rattle.algol_sites.specs.Wanting.{are_miscounted, unfit_event, unfit_events}
 use Rattle.algol_sites.specs.Expressing.{noted_here}
-use Rattle.algol_sites.proofs.Parts.{events_told, only_event_told, variable_is}
-use Rattle.algol_sites.proofs.Forms.{neg_image, not_image, paren_image, plus_image, variable_image, waited_image}
+use Rattle.algol_sites.proofs.Parts.{events_told, only_event_told}
+use Rattle.algol_sites.proofs.Forms.{variable_image, waited_image}
 
 module _ (e : Expr) (a : Surroundings) (f : Option Fault) where
   -- the same of the plain tree

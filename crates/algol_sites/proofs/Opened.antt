@@ -41,13 +41,6 @@ placed blocks b c place f s o h n =
       are_blocks = (let P : Spot → Type 0 = IsBlock blocks in subst P s (within blocks (number_at blocks b.spot) b f), h);
     }
 
-pub begins : (blocks : List Block) (b : Block) (c : Surroundings) (place : Place) → place.around.items ≡ [] → BlockIsFound blocks b → b.spot ≡ place.block → b.outer ≡ [] →
-    c.block ≡ number_at blocks place.block → SiteIsPlaced blocks place c
-begins blocks b c place e f s o n =
-    let none : reverse place.around.items ≡ [] = ap reverse e in
-    let P : List Spot → Type 0 = AreBlocks blocks in
-    placed blocks b c place f s (o ∙ sym none) (subst P (sym none) tt) n
-
 pub opens : (blocks : List Block) (b : Block) (a c : Surroundings) (old new : Place) → new.around.items ≡ old.around.items ++ old.block ∷ [] → SiteIsPlaced blocks old a → BlockIsFound blocks b →
     b.spot ≡ new.block → b.outer ≡ outer_of old → c.block ≡ number_at blocks new.block → SiteIsPlaced blocks new c
 opens blocks b a c old new e p f s o n =

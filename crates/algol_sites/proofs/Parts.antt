@@ -16,7 +16,6 @@ use Rattle.std.specs.declared.alloc.Global.{Global}
 use Rattle.algol_tree.specs.declared.tree.Expr.{Expr}
 use Rattle.algol_tree.specs.declared.tree.Expr as expressions
 use Rattle.algol_tree.specs.declared.tree.Variable.{Variable}
-use Rattle.algol_tree.specs.declared.tree.Variable as variables
 use Rattle.algol_tree.specs.declared.tree.Call.{Call}
 use Rattle.algol_tree.specs.declared.tree.Call as calls
 use Rattle.algol_tree.specs.Plain as tree
@@ -29,11 +28,13 @@ use Rattle.algol_tree.specs.Names.{if_so}
 use Rattle.algol_tree.specs.Surroundings.{Surroundings, class_of, formals_at}
 use Rattle.algol_tree.specs.Sites as site
 use Rattle.algol_tree.specs.Accepted.{noted_all}
+use Rattle.algol_tree.proofs.Images.{if_image, two_image, variable_is}
+use Rattle.algol_rules.proofs.Order.{noted_all_append}
 use Rattle.algol_sites.specs.declared.wanted.Wanted.TheVariants as wanted
 use Rattle.algol_sites.specs.Noting.{rule_broken, broken_if, noted_in, mistyped, mistyped_for, mistyped_list, differs}
 use Rattle.algol_sites.specs.Wanting.{event_wanted, is_met, unfit, unfit_event, unfit_events}
 use Rattle.algol_sites.specs.Expressing.{miscounted_subscripts, noted_name, noted_element, noted_here, noted_call}
-use Rattle.algol_sites.proofs.Notes.{noted_all-append, noted_along-append}
+use Rattle.algol_sites.proofs.Notes.{noted_along_append}
 
 -- ---- lists of expressions
 
@@ -41,11 +42,11 @@ abbrev pub wrong_numbers : PExprs → Surroundings → List Spot
 wrong_numbers tree.none a = []
 wrong_numbers (tree.more e es) a = if_so (differs kinds.Number (type_of e a)) (first_spot e) ++ wrong_numbers es a
 
-pub mistyped-list : (es : PExprs) (a : Surroundings) → rule_broken codes.WrongType (wrong_numbers es a) ≡ mistyped_list es a
-mistyped-list tree.none a = refl
-mistyped-list (tree.more e es) a =
+pub mistyped_list_is : (es : PExprs) (a : Surroundings) → rule_broken codes.WrongType (wrong_numbers es a) ≡ mistyped_list es a
+mistyped_list_is tree.none a = refl
+mistyped_list_is (tree.more e es) a =
     map-append (λ (spot : Spot). record { spot = spot; code = codes.WrongType }) (if_so (differs kinds.Number (type_of e a)) (first_spot e)) (wrong_numbers es a)
-    ∙ ap (λ fs. mistyped kinds.Number e a ++ fs) (mistyped-list es a)
+    ∙ ap (λ fs. mistyped kinds.Number e a ++ fs) (mistyped_list_is es a)
 
 abbrev pub count_of : PExprs → ℕ
 count_of tree.none = 0
@@ -62,16 +63,13 @@ element_noted : (first : Option Fault) (n : Named) (es : PExprs) (a : Surroundin
     noted_all (noted_all first (unfit wanted.Array codes.WrongType n a)) (mistyped_list es a)
 element_noted first n es a =
     ap (noted_all first) (map-append (λ (spot : Spot). record { spot = spot; code = codes.WrongType }) (if_so (not (is_array (class_of a n)) && not (is_unspecified (class_of a n))) n.spot) (wrong_numbers es a))
-    ∙ noted_all-append first (unfit wanted.Array codes.WrongType n a) (rule_broken codes.WrongType (wrong_numbers es a))
-    ∙ ap (noted_all (noted_all first (unfit wanted.Array codes.WrongType n a))) (mistyped-list es a)
+    ∙ noted_all_append first (unfit wanted.Array codes.WrongType n a) (rule_broken codes.WrongType (wrong_numbers es a))
+    ∙ ap (noted_all (noted_all first (unfit wanted.Array codes.WrongType n a))) (mistyped_list_is es a)
 
 pub here_element : (first : Option Fault) (n : Named) (e : PExpr) (es : PExprs) (a : Surroundings) →
     noted_here first (tree.variable (tree.subscripted n (tree.more e es))) a ≡ noted_element first n (tree.more e es) (count_of (tree.more e es)) a
 here_element first n e es a =
     ap (λ (f : Option Fault). noted_all f (miscounted_subscripts n (count_of (tree.more e es)) a)) (element_noted first n (tree.more e es) a)
-
-pub variable_is : (v : Variable) → variable v ≡ tree.subscripted v.name (exprs v.subs)
-variable_is v = search (rules, variables.the_lemmas)
 
 pub reading_none : (first : Option Fault) (v : Variable) (a : Surroundings) → v.subs ≡ [] →
     noted_here first (tree.variable (variable v)) a ≡ noted_name first v.name a
@@ -92,24 +90,16 @@ pub some_read : (first g : Option Fault) (v : Variable) (a : Surroundings) (xs y
 some_read first g v a xs ys e es p q r h =
     h ∙ ap (λ zs. noted_element first v.name (exprs zs) (length zs) a) r ∙ sym (reading_some first v a e es (sym q ∙ p))
 
-pub ruleset reading = reading_none
-
 -- ---- expressions
 
 pub call_image : (c : Call) → expr (expressions.Call c) ≡ tree.call (tree.called c.name (exprs c.actuals))
 call_image c = search (rules, expressions.the_lemmas, calls.the_lemmas)
 
-pub two_image : (op : Op) (x y : Box Expr Global) → expr (expressions.Two op x y) ≡ tree.two op (expr x.value) (expr y.value)
-two_image op x y = search (rules, expressions.the_lemmas)
-
-pub if_image : (c x y : Box Expr Global) (spot : Spot) → expr (expressions.If c x y spot) ≡ tree.if (expr c.value) (expr x.value) (expr y.value) spot
-if_image c x y spot = search (rules, expressions.the_lemmas)
-
 pub broken_pair : (first : Option Fault) (xs ys : List Spot) →
     noted_all first (rule_broken codes.WrongType (xs ++ ys)) ≡ noted_all (noted_all first (rule_broken codes.WrongType xs)) (rule_broken codes.WrongType ys)
 broken_pair first xs ys =
     ap (noted_all first) (map-append (λ (spot : Spot). record { spot = spot; code = codes.WrongType }) xs ys)
-    ∙ noted_all-append first (rule_broken codes.WrongType xs) (rule_broken codes.WrongType ys)
+    ∙ noted_all_append first (rule_broken codes.WrongType xs) (rule_broken codes.WrongType ys)
 
 abbrev pub differing : Kind → PExpr → Surroundings → List Spot
 differing k e a = if_so (differs k (type_of e a)) (first_spot e)
@@ -136,7 +126,7 @@ two_noted e op x y a f0 f1 f2 f3 f4 is p q r s =
     s ∙ ap (λ o. noted_in o (site.sites (expr y.value) a)) (r ∙ ap (λ o. noted_in o (site.sites (expr x.value) a)) (q
     ∙ ap (λ o. noted_all o (mistyped (taken_by op) (expr y.value) a)) p
     ∙ sym (broken_pair f0 (differing (taken_by op) (expr x.value) a) (differing (taken_by op) (expr y.value) a))))
-    ∙ sym (noted_along-append [] (noted_here f0 (tree.two op (expr x.value) (expr y.value)) a) (site.sites (expr x.value) a) (site.sites (expr y.value) a))
+    ∙ sym (noted_along_append [] (noted_here f0 (tree.two op (expr x.value) (expr y.value)) a) (site.sites (expr x.value) a) (site.sites (expr y.value) a))
     ∙ sym (ap (λ z. noted_in f0 (site.sites z a)) (ap expr is ∙ two_image op x y))
 
 pub if_noted : (e : Expr) (c x y : Box Expr Global) (spot : Spot) (a : Surroundings) (f0 f1 f2 f3 f4 f5 : Option Fault) → e ≡ expressions.If c x y spot →
@@ -148,8 +138,8 @@ if_noted e c x y spot a f0 f1 f2 f3 f4 f5 is p q r s u =
     ∙ ap (λ o. noted_all o (mistyped_for (type_of (expr x.value) a) (expr y.value) a)) p
     ∙ ap (noted_all (noted_all f0 (mistyped kinds.Truth (expr c.value) a))) (sym (differing_noted (type_of (expr x.value) a) (expr y.value) a))
     ∙ sym (broken_pair f0 (differing kinds.Truth (expr c.value) a) (differing_for (type_of (expr x.value) a) (expr y.value) a)))))
-    ∙ ap (λ o. noted_in o (site.sites (expr y.value) a)) (sym (noted_along-append [] (noted_here f0 (tree.if (expr c.value) (expr x.value) (expr y.value) spot) a) (site.sites (expr c.value) a) (site.sites (expr x.value) a)))
-    ∙ sym (noted_along-append [] (noted_here f0 (tree.if (expr c.value) (expr x.value) (expr y.value) spot) a) (site.sites (expr c.value) a ++ site.sites (expr x.value) a) (site.sites (expr y.value) a))
+    ∙ ap (λ o. noted_in o (site.sites (expr y.value) a)) (sym (noted_along_append [] (noted_here f0 (tree.if (expr c.value) (expr x.value) (expr y.value) spot) a) (site.sites (expr c.value) a) (site.sites (expr x.value) a)))
+    ∙ sym (noted_along_append [] (noted_here f0 (tree.if (expr c.value) (expr x.value) (expr y.value) spot) a) (site.sites (expr c.value) a ++ site.sites (expr x.value) a) (site.sites (expr y.value) a))
     ∙ sym (ap (λ z. noted_in f0 (site.sites z a)) (ap expr is ∙ if_image c x y spot))
 
 pub event_told : (t : Bool) (n : Named) (c : Class) →

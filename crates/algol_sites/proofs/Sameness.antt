@@ -1,7 +1,6 @@
 -- Lists that are the same element by element.
-use Rattle.std.proofs.Common.{◌≡◌, ◌≢◌, ℕ, ℤ, Bool, true, false, List, [], ◌∷◌, length, refl, ap, sym, ◌∙◌, arith}
-use Rattle.std.specs.Prelude.{◌==◌, ◌&&◌}
-use Rattle.std.specs.Str.{bytes_eq}
+use Rattle.std.proofs.Common.{◌≡◌, ◌≢◌, ℤ, Bool, true, false, List, [], ◌∷◌, length, refl, ap, sym, ◌∙◌, arith}
+use Rattle.std.specs.Prelude.{◌&&◌}
 use Rattle.std.specs.Ordering.{int_eq}
 use Rattle.std.specs.Cmp.Lexicographic.{pointwise}
 use Rattle.algol_tree.specs.declared.tree.Named.{Named}
@@ -10,13 +9,8 @@ use Rattle.algol_tree.specs.declared.tree.Heading.{Heading}
 use Rattle.algol_tree.specs.Classes.{same_result}
 use Rattle.algol_tree.specs.Forwards.{same_heading}
 use Rattle.algol_tree.specs.Sorts.{same_name}
+use Rattle.algol_tree.proofs.Names.{bytes_same_name}
 use Rattle.algol_sites.specs.Same.{names_agree, lows_agree, specs_agree, spec_agrees}
-
-pub straight : (xs ys : List ℕ) → bytes_eq xs ys ≡ same_name xs ys
-straight [] [] = refl
-straight [] (y ∷ ys) = refl
-straight (x ∷ xs) [] = refl
-straight (x ∷ xs) (y ∷ ys) = ap (λ b. (x == y) && b) (straight xs ys)
 
 pub lows_straight : (xs ys : List ℤ) → pointwise int_eq xs ys ≡ lows_agree xs ys
 lows_straight [] [] = refl
@@ -42,7 +36,7 @@ specs_differ (s ∷ ss) [] h = refl
 specs_differ (s ∷ ss) (t ∷ ts) h =
     ap (λ b. spec_agrees s t && b) (specs_differ ss ts (λ e. h (omega arith))) ∙ sym (and_false (spec_agrees s t))
 
-pub ruleset sameness = (straight, lows_straight, names_differ, specs_differ)
+pub ruleset sameness = (bytes_same_name, lows_straight, names_differ, specs_differ)
 
 pub names_as : (xs ys ns ms : List Named) → xs ≡ ns → ys ≡ ms → true ≡ names_agree xs ys → true ≡ names_agree ns ms
 names_as xs ys ns ms p q h = h ∙ ap (λ zs. names_agree zs ys) p ∙ ap (names_agree ns) q

@@ -1,5 +1,5 @@
 -- What a heading says of its parameters, as the rules have it, and its faults name by name.
-use Rattle.std.proofs.Common.{◌≡◌, ℕ, ◌+◌, ◌<◌, Bool, true, false, List, [], ◌∷◌, length, drop, get_or, Option, refl, ap, sym, ◌∙◌, arith, drop-cons, suc}
+use Rattle.std.proofs.Common.{◌≡◌, ℕ, ◌+◌, ◌<◌, Bool, true, false, List, [], ◌∷◌, length, drop, get_or, Option, refl, ap, sym, ◌∙◌}
 use Rattle.std.specs.Prelude.{if◌then◌else◌}
 use Rattle.algol_tree.specs.declared.tree.Heading.{Heading}
 use Rattle.algol_tree.specs.declared.tree.Named.{Named}
@@ -14,10 +14,11 @@ use Rattle.algol_sorts.specs.declared.sort.Sort.{Sort}
 use Rattle.algol_sorts.specs.declared.heading.Specified.{Specified}
 use Rattle.algol_sorts.specs.Sorts.{parameter_by}
 use Rattle.algol_sorts.specs.Specified.{SaysAll, told_sort}
+use Rattle.algol_rules.proofs.Order.{noted_all_append}
+use Rattle.b67_list.proofs.Lists.{drop_read}
 use Rattle.algol_sites.specs.Seen.{class_seen}
 use Rattle.algol_sites.specs.Headings.{faulty, is_reference}
 use Rattle.algol_sites.specs.Noting.{broken_if}
-use Rattle.algol_sites.proofs.Notes.{noted_all-append}
 
 by_seen : (s : Spec) (value : Bool) → class_seen (parameter_by (class_by s) value) ≡ class_by s
 by_seen (specs'.Simple kind ns) true = refl
@@ -35,19 +36,14 @@ formal_seen (s ∷ ss) name value = decide (specified_by s name) (formal_seen ss
     decide true h = by_seen s value
     decide false h = h
 
-split : {A : Type 0} (xs : List A) (i : ℕ) (x : A) → i < length xs → x ≡ get_or xs i x → drop i xs ≡ x ∷ drop (i + 1) xs
-split xs i x h e =
-    let next : suc i ≡ i + 1 = omega arith in
-    drop-cons xs i x h ∙ ap (λ y. y ∷ drop (suc i) xs) (sym e) ∙ ap (λ n. x ∷ drop n xs) next
-
 -- ---- faults of names
 
 pub faulty_step : (test : Named → Bool) (ns : List Named) (i : ℕ) (n : Named) (b : Bool) (f g : Option Fault) → i < length ns → n ≡ get_or ns i n → b ≡ test n →
     g ≡ noted_all f (broken_if codes.WrongType b n.spot) → noted_all g (faulty test (drop (i + 1) ns)) ≡ noted_all f (faulty test (drop i ns))
 faulty_step test ns i n b f g h e p q =
     ap (λ o. noted_all o (faulty test (drop (i + 1) ns))) (q ∙ ap (λ x. noted_all f (broken_if codes.WrongType x n.spot)) p)
-    ∙ sym (noted_all-append f (broken_if codes.WrongType (test n) n.spot) (faulty test (drop (i + 1) ns)))
-    ∙ sym (ap (λ xs. noted_all f (faulty test xs)) (split ns i n h e))
+    ∙ sym (noted_all_append f (broken_if codes.WrongType (test n) n.spot) (faulty test (drop (i + 1) ns)))
+    ∙ sym (ap (λ xs. noted_all f (faulty test xs)) (drop_read ns i n h e))
 
 -- what is told of a name is what the specifications say
 sort_seen : (specified : Specified) (h : Heading) (s : Sort) (name bytes : List ℕ) → SaysAll specified h → s ≡ told_sort specified bytes → bytes ≡ name →

@@ -1,5 +1,5 @@
 -- What the walk notes of a statement is what the rules have for it, where the scopes tell of the names in it.
-use Rattle.std.proofs.Common.{rules, ◌≡◌, ℕ, ◌+◌, ◌<◌, Bool, true, false, List, [], ◌∷◌, ◌++◌, length, drop, get_or, Option, Some, None, refl, ap, sym, ◌∙◌, arith, drop-cons, suc, subst}
+use Rattle.std.proofs.Common.{◌≡◌, ℕ, ◌+◌, ◌<◌, Bool, true, false, List, [], ◌∷◌, ◌++◌, length, drop, get_or, Option, Some, None, refl, ap, sym, ◌∙◌, subst}
 use Rattle.std.specs.Prelude.{◌&&◌, not, if◌then◌else◌}
 use Rattle.algol_tree.specs.declared.token.Spot.{Spot}
 use Rattle.algol_tree.specs.declared.refusal.Code.TheVariants as codes
@@ -14,7 +14,6 @@ use Rattle.algol_tree.specs.declared.tree.Expr.{Expr}
 use Rattle.algol_tree.specs.declared.tree.Pair.{Pair}
 use Rattle.algol_tree.specs.declared.tree.Variable.{Variable}
 use Rattle.algol_tree.specs.declared.tree.Call.{Call}
-use Rattle.algol_tree.specs.declared.tree.Call as calls
 use Rattle.algol_tree.specs.Plain as tree
 use Rattle.algol_tree.specs.Plain.{PExpr, PExprs, PStmt}
 use Rattle.algol_tree.specs.Image.{expr, exprs, call, pairs, variable}
@@ -27,6 +26,8 @@ use Rattle.algol_tree.specs.Surroundings.{Surroundings, class_of, formals_at}
 use Rattle.algol_tree.specs.Sites as site
 use Rattle.algol_tree.specs.Sites.{Site, sites, inside_list, inside_actuals, sites_in_pairs}
 use Rattle.algol_tree.specs.Accepted.{noted_all}
+use Rattle.algol_tree.proofs.Images.{call_is, variable_is}
+use Rattle.b67_list.proofs.Lists.{drop_read}
 use Rattle.algol_sites.specs.declared.place.Place.{Place}
 use Rattle.algol_sites.specs.declared.wanted.Wanted.TheVariants as wanted
 use Rattle.algol_sites.specs.Assigning.{can_take}
@@ -39,9 +40,9 @@ use Rattle.algol_sites.specs.Wanting.{is_met, unfit, unfit_event}
 use Rattle.algol_sites.specs.Lining.{noted_line}
 use Rattle.algol_sites.specs.Expressing.{miscounted_actuals, miscounted_subscripts, noted_call}
 use Rattle.algol_sites.specs.Stating.{noted_name_side, noted_element_side, noted_left, noted_process, noted_control, unfit_task, is_truth}
-use Rattle.algol_sites.proofs.Notes.{noted_along-append}
+use Rattle.algol_sites.proofs.Notes.{noted_along_append}
 use Rattle.algol_sites.proofs.Telling.{actuals_told, first_told, in_told, last_told, list_told, task_told as task_is_told}
-use Rattle.algol_sites.proofs.Parts.{wrong_numbers, mistyped-list, count_of, counted, variable_is, broken_pair, differing, differing_for, differing_noted, event_told}
+use Rattle.algol_sites.proofs.Parts.{wrong_numbers, mistyped_list_is, count_of, counted, broken_pair, differing, differing_for, differing_noted, event_told}
 use Rattle.algol_sites.proofs.Surrounded.{sites_same, list_same, actuals_same}
 use Rattle.algol_sites.proofs.Within.{is_assignable, taken_told}
 
@@ -106,7 +107,7 @@ module _ (blocks : List Block) (a : Surroundings) where
       let es = tree.more x xs in
       let wrong = if_so (not (is_met wanted.Array c) && not (is_unspecified c)) n.spot in
       ap (λ o. noted_all o (miscounted_subscripts n (count_of es) a))
-      (ap (λ fs. noted_all (noted_all (noted_all f (rule_broken codes.WrongType wrong)) fs) (mistyped_for (element_type c) e a)) (sym (mistyped-list es a))
+      (ap (λ fs. noted_all (noted_all (noted_all f (rule_broken codes.WrongType wrong)) fs) (mistyped_for (element_type c) e a)) (sym (mistyped_list_is es a))
       ∙ ap (noted_all (noted_all (noted_all f (rule_broken codes.WrongType wrong)) (rule_broken codes.WrongType (wrong_numbers es a)))) (sym (differing_noted (element_type c) e a))
       ∙ sym (broken_pair f (wrong ++ wrong_numbers es a) (differing_for (element_type c) e a)
       ∙ ap (λ o. noted_all o (rule_broken codes.WrongType (differing_for (element_type c) e a))) (broken_pair f wrong (wrong_numbers es a))))
@@ -132,7 +133,7 @@ module _ (blocks : List Block) (a : Surroundings) where
       let wrong = if_so (not (is_met wanted.File c) && not (is_unspecified c)) n.spot in
       ap (λ m. noted_line (noted_all (noted_all f (unfit wanted.File codes.WrongType n a)) (mistyped_list (exprs es) a)) ps m spot) (sym (counted es))
       ∙ ap (λ o. noted_line o ps (count_of (exprs es)) spot)
-      (ap (noted_all (noted_all f (unfit wanted.File codes.WrongType n a))) (sym (mistyped-list (exprs es) a))
+      (ap (noted_all (noted_all f (unfit wanted.File codes.WrongType n a))) (sym (mistyped_list_is (exprs es) a))
       ∙ sym (broken_pair f wrong (wrong_numbers (exprs es) a)))
 
   abbrev wrong_control : Class → Named → List Spot
@@ -164,9 +165,6 @@ module _ (blocks : List Block) (a : Surroundings) where
 
 -- ---- whole statements
 
-call_is : (c : Call) → call c ≡ tree.called c.name (exprs c.actuals)
-call_is c = search (rules, calls.the_lemmas)
-
 module _ (s : Scopes) where
   pub assign_notes : (place : Place) (v : Variable) (e : Expr) (listed : Bool) (f g h k : Option Fault) →
       ((a : Surroundings) → ScopesTell s a v.name → TellsEach s a (exprs v.subs) → TellsIn s a (expr e) →
@@ -184,7 +182,7 @@ module _ (s : Scopes) where
             let value = in_told s a (expr e) (last_told s (inside_list (exprs v.subs) a) (sites (expr e) a) told.1) in
             expression_on blocks a (expr e) h k (r a value)
             ∙ ap (λ o. noted_along blocks o (sites (expr e) a)) (list_on blocks a (exprs v.subs) g h (q a subs))
-            ∙ sym (noted_along-append blocks g (inside_list (exprs v.subs) a) (sites (expr e) a))
+            ∙ sym (noted_along_append blocks g (inside_list (exprs v.subs) a) (sites (expr e) a))
             ∙ ap (λ o. noted_along blocks o (inside_list (exprs v.subs) a ++ sites (expr e) a))
             (p a told.0.0 subs value ∙ ap (λ x. noted_left f (can_take place.block place.around.items) x (length v.subs) (expr e) a) (variable_is v)
             ∙ left_here blocks a place at v.name v.subs (expr e) listed f)
@@ -266,8 +264,8 @@ module _ (s : Scopes) where
       ∙ ap (λ z. noted_along blocks z (sites l a)) (expression_on blocks a y h i (r a ty)
       ∙ ap (λ z. noted_along blocks z (sites y a)) (expression_on blocks a x g h (q a tx)
       ∙ ap (λ z. noted_along blocks z (sites x a)) (p a name tx ty tl ∙ control_here blocks a v x y l body listed f)))
-      ∙ ap (λ z. noted_along blocks z (sites l a)) (sym (noted_along-append blocks o (sites x a) (sites y a)))
-      ∙ sym (noted_along-append blocks o (sites x a ++ sites y a) (sites l a))
+      ∙ ap (λ z. noted_along blocks z (sites l a)) (sym (noted_along_append blocks o (sites x a) (sites y a)))
+      ∙ sym (noted_along_append blocks o (sites x a ++ sites y a) (sites l a))
 
 -- ---- the left side, by its subscripts
 
@@ -298,24 +296,19 @@ left_some v e takes s f g xs ys y zs p q r h =
 
 -- ---- one more bound
 
-split : {A : Type 0} (xs : List A) (i : ℕ) (x : A) → i < length xs → x ≡ get_or xs i x → drop i xs ≡ x ∷ drop (i + 1) xs
-split xs i x h e =
-    let next : suc i ≡ i + 1 = omega arith in
-    drop-cons xs i x h ∙ ap (λ y. y ∷ drop (suc i) xs) (sym e) ∙ ap (λ n. x ∷ drop n xs) next
-
 pub bound_step : (blocks : List Block) (a : Surroundings) (ps : List Pair) (i : ℕ) (p : Pair) (f g : Option Fault) → i < length ps → p ≡ get_or ps i p →
     g ≡ noted_along blocks (noted_all f (mistyped kinds.Number (expr p.high) a)) (sites (expr p.high) a) →
     noted_along blocks g (sites_in_pairs (pairs (drop (i + 1) ps)) a) ≡ noted_along blocks f (sites_in_pairs (pairs (drop i ps)) a)
 bound_step blocks a ps i p f g h e q =
     ap (λ o. noted_along blocks o (sites_in_pairs (pairs (drop (i + 1) ps)) a)) q
-    ∙ sym (noted_along-append blocks (noted_all f (mistyped kinds.Number (expr p.high) a)) (sites (expr p.high) a) (sites_in_pairs (pairs (drop (i + 1) ps)) a))
-    ∙ sym (ap (λ xs. noted_along blocks f (sites_in_pairs (pairs xs) a)) (split ps i p h e))
+    ∙ sym (noted_along_append blocks (noted_all f (mistyped kinds.Number (expr p.high) a)) (sites (expr p.high) a) (sites_in_pairs (pairs (drop (i + 1) ps)) a))
+    ∙ sym (ap (λ xs. noted_along blocks f (sites_in_pairs (pairs xs) a)) (drop_read ps i p h e))
 
 pub bound_split : (s : Scopes) (a : Surroundings) (ps : List Pair) (i : ℕ) (p : Pair) → i < length ps → p ≡ get_or ps i p →
     TellsAll s (sites_in_pairs (pairs (drop i ps)) a) → TellsAll s (sites (expr p.high) a) × TellsAll s (sites_in_pairs (pairs (drop (i + 1) ps)) a)
 bound_split s a ps i p h e t =
     let P : List Pair → Type 0 = λ xs. TellsAll s (sites_in_pairs (pairs xs) a) in
-    let k : P (p ∷ drop (i + 1) ps) = subst P (split ps i p h e) t in
+    let k : P (p ∷ drop (i + 1) ps) = subst P (drop_read ps i p h e) t in
     let rest = sites_in_pairs (pairs (drop (i + 1) ps)) a in
     (first_told s (sites (expr p.high) a) rest k.1, last_told s (sites (expr p.high) a) rest k.1)
 

@@ -10,13 +10,13 @@ use Rattle.algol_tree.specs.Surroundings.{Surroundings, formals_at}
 use Rattle.algol_tree.specs.Sites as site
 use Rattle.algol_tree.specs.Sites.{Site, actual_part, actual_part_by, first_formal, here, inside_actuals, inside_expr, inside_list, name_part, other_formals, sites, wants_value}
 use Rattle.algol_sites.specs.Noting.{noted_at, noted_along, noted_in}
-use Rattle.algol_sites.proofs.Notes.{noted_along-append}
+use Rattle.algol_sites.proofs.Notes.{noted_along_append}
 
 module _ (blocks : List Block) (a : Surroundings) where
   paired : (xs ys : List Site) (f : Option Fault) → ((g : Option Fault) → noted_along blocks g xs ≡ noted_in g xs) →
       ((g : Option Fault) → noted_along blocks g ys ≡ noted_in g ys) → noted_along blocks f (xs ++ ys) ≡ noted_in f (xs ++ ys)
   paired xs ys f h k =
-      noted_along-append blocks f xs ys ∙ k (noted_along blocks f xs) ∙ ap (λ o. noted_in o ys) (h f) ∙ sym (noted_along-append [] f xs ys)
+      noted_along_append blocks f xs ys ∙ k (noted_along blocks f xs) ∙ ap (λ o. noted_in o ys) (h f) ∙ sym (noted_along_append [] f xs ys)
 
   name_same : (n : Named) (value : Bool) (f : Option Fault) →
       noted_at blocks f (record { part = name_part n value; around = a }) ≡ noted_at [] f (record { part = name_part n value; around = a })

@@ -11,15 +11,15 @@ use Rattle.algol_tree.specs.Sites.{Site, actual_part_by, first_formal, here, ins
 use Rattle.algol_tree.proofs.Alone.{named_alone}
 use Rattle.algol_frames.specs.declared.scopes.Scopes.{Scopes}
 use Rattle.algol_told.specs.Telling.{ScopesTell, TellsAll, TellsAt}
-use Rattle.algol_told.proofs.Lists.{all-left, all-right}
+use Rattle.algol_told.proofs.Lists.{all_left, all_right}
 use Rattle.algol_sites.specs.Seeing.{TellsEach, TellsIn, TellsTask}
 
 module _ (s : Scopes) where
   pub first_told : (xs ys : List Site) → TellsAll s (xs ++ ys) → TellsAll s xs
-  first_told xs ys t = all-left (TellsAt s) xs ys t
+  first_told xs ys t = all_left (TellsAt s) xs ys t
 
   pub last_told : (xs ys : List Site) → TellsAll s (xs ++ ys) → TellsAll s ys
-  last_told xs ys t = all-right (TellsAt s) xs ys t
+  last_told xs ys t = all_right (TellsAt s) xs ys t
 
 module _ (s : Scopes) (a : Surroundings) where
   name_here : (n : Named) (value : Bool) → TellsAt s (record { part = name_part n value; around = a }) →

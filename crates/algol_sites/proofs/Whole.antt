@@ -13,9 +13,8 @@ use Rattle.algol_tree.specs.Checks.{wrong_types, not_assignable}
 use Rattle.algol_tree.specs.Counted.{wrong_counts, bad_lists, wide_lines}
 use Rattle.algol_tree.specs.Labels.{bad_labels}
 use Rattle.algol_tree.specs.Accepted.{noted_all, check_faults, first_fault, sites_of}
-use Rattle.algol_rules.proofs.Order.{IsRule, AreRules, noted_all-swap}
+use Rattle.algol_rules.proofs.Order.{IsRule, AreRules, noted_all_swap, noted_all_append}
 use Rattle.algol_sites.specs.Noting.{rule_broken, noted_at, noted_along}
-use Rattle.algol_sites.proofs.Notes.{noted_all-append}
 
 -- ---- lists of faults, one list after the other
 
@@ -37,7 +36,7 @@ swapped : (first : Option Fault) (gs : List Fault) (fss : List (List Fault)) →
     noted_many (noted_all first gs) fss ≡ noted_all (noted_many first fss) gs
 swapped first gs [] r s = refl
 swapped first gs (fs ∷ fss) r s =
-    ap (λ o. noted_many o fss) (noted_all-swap first gs fs r s.0) ∙ swapped (noted_all first fs) gs fss r s.1
+    ap (λ o. noted_many o fss) (noted_all_swap first gs fs r s.0) ∙ swapped (noted_all first fs) gs fss r s.1
 
 many_swapped : (first : Option Fault) (fss gss : List (List Fault)) → AllRules fss → AllRules gss →
     noted_many (noted_many first fss) gss ≡ noted_many (noted_many first gss) fss
@@ -49,7 +48,7 @@ apart : (first : Option Fault) (fss gss : List (List Fault)) → AllRules fss �
 apart first [] gss r s = refl
 apart first (fs ∷ fss) [] r s = refl
 apart first (fs ∷ fss) (gs ∷ gss) r s =
-    ap (λ o. noted_many o (joined fss gss)) (noted_all-append first fs gs)
+    ap (λ o. noted_many o (joined fss gss)) (noted_all_append first fs gs)
     ∙ apart (noted_all (noted_all first fs) gs) fss gss r.1 s.1
     ∙ ap (λ o. noted_many o gss) (swapped (noted_all first fs) gs fss s.0 r.1)
 
@@ -109,12 +108,12 @@ module _ (blocks : List Block) where
 in_turn : (first : Option Fault) (a b c d e g : List Fault) →
     noted_all first (a ++ b ++ c ++ d ++ e ++ g) ≡ noted_all (noted_many first (a ∷ b ∷ c ∷ d ∷ e ∷ [])) g
 in_turn first a b c d e g =
-    noted_all-append first (a ++ b ++ c ++ d ++ e) g
+    noted_all_append first (a ++ b ++ c ++ d ++ e) g
     ∙ ap (λ o. noted_all o g)
-    (noted_all-append first (a ++ b ++ c ++ d) e
+    (noted_all_append first (a ++ b ++ c ++ d) e
     ∙ ap (λ o. noted_all o e)
-    (noted_all-append first (a ++ b ++ c) d
-    ∙ ap (λ o. noted_all o d) (noted_all-append first (a ++ b) c ∙ ap (λ o. noted_all o c) (noted_all-append first a b))))
+    (noted_all_append first (a ++ b ++ c) d
+    ∙ ap (λ o. noted_all o d) (noted_all_append first (a ++ b) c ∙ ap (λ o. noted_all o c) (noted_all_append first a b))))
 
 pub first_in_turn : (p : PProgram) →
     first_fault (check_faults p) ≡ noted_all (noted_along (blocks_of_program p) None (sites_of p)) (rule_broken codes.BadLabel (bad_labels (sites_of p)))

@@ -12,6 +12,7 @@ use Rattle.std.specs.BTreeMap as tree
 use Rattle.std.specs.BTreeMap.{BTreeMap}
 use Rattle.std.proofs.lemmas.Map.Text.{is_eq-slice_cmp}
 use Rattle.std.proofs.lemmas.Slice.Eq.{bytes_eq-Decides}
+use Rattle.b67_list.proofs.Truths.{and_false}
 use Rattle.algol_sorts.specs.declared.key.Key.{Key}
 use Rattle.algol_sorts.specs.Tables.{end_of, sort_named}
 
@@ -23,10 +24,6 @@ ties Greater p = refl
 same_number : (n : ℕ) → is_eq (nat_cmp n n) ≡ true
 same_number n = ap is_eq (sym (nat_cmp_is n n Equal refl))
 
-nothing_else : (b : Bool) → (b && false) ≡ false
-nothing_else true = refl
-nothing_else false = refl
-
 same_key : (name q : List ℕ) → is_eq (ordering_then (nat_cmp (end_of name) (end_of q)) (slice_cmp nat_cmp name q)) ≡ bytes_eq name q
 same_key name q =
     ties (nat_cmp (end_of name) (end_of q)) (slice_cmp nat_cmp name q)
@@ -36,7 +33,7 @@ same_key name q =
     decide : (b : Bool) → bytes_eq name q ≡ b → (is_eq (nat_cmp (end_of name) (end_of q)) && b) ≡ b
     decide true e =
         ap (λ z. is_eq (nat_cmp (end_of name) (end_of z)) && true) (sym ((bytes_eq-Decides name q).0 e)) ∙ ap (λ b. b && true) (same_number (end_of name))
-    decide false e = nothing_else (is_eq (nat_cmp (end_of name) (end_of q)))
+    decide false e = and_false (is_eq (nat_cmp (end_of name) (end_of q)))
 
 abbrev pub key_cmp : Key → Key → Ordering
 key_cmp x y = ordering_then (nat_cmp x.end y.end) (slice_cmp nat_cmp x.bytes.now y.bytes.now)

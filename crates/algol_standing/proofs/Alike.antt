@@ -2,6 +2,7 @@
 use Rattle.std.proofs.Common.{◌≡◌, ◌⊎◌, ℕ, zero, suc, ◌<◌, ◌≤◌, List, [], ◌∷◌, length, Some, false, refl, sym, ap, ◌∙◌, subst}
 use Rattle.std.specs.Prelude.{slice_get}
 use Rattle.b67_list.specs.Numbered.{numbered}
+use Rattle.b67_list.proofs.Lists.{length_map}
 use Rattle.algol_tree.specs.Blocks.{around}
 use Rattle.algol_tree.specs.Scopes.{Scopes}
 use Rattle.algol_meaning.specs.Value.{Reference, NameCell, event}
@@ -14,7 +15,7 @@ use Rattle.algol_paths.specs.Laws.{KeepsToText}
 use Rattle.algol_standing.specs.Skeleton.{Evaluation, IsEvaluated, Stack, Home, IsInSkeleton, NextIn, Owned, SkeletonOk}
 use Rattle.algol_standing.specs.Worlds.{home_of, held_by, stack_of, skeleton, IsStanding, IsOnPath, IsOwn, PartIsPlaced, outermost, inside, WaitersAreListed, IsNameAmong, IsNoBlock, KeepsActual, PartOk, ProcessOk, InstanceOk, IsSound}
 use Rattle.algol_standing.proofs.Growth.{Grows, stands_up, path_up}
-use Rattle.algol_standing.proofs.Pairs.{map_back, map_forth, map_length, AllPairs, numbered_back, numbered_forth, pairs_length, stack_back}
+use Rattle.algol_standing.proofs.Pairs.{map_back, map_forth, AllPairs, numbered_back, numbered_forth, pairs_length, stack_back}
 
 -- An instance, which was x, is y: it refers to nothing more, and keeps no other actual.
 pub record InstanceAlike (x y : Instance) : Type 0 where
@@ -49,10 +50,6 @@ instance_then x y z f g =
 
 pub process_self : (x : Process) → ProcessAlike x x
 process_self x = record { own = refl; owned = λ i n. n; critical = refl; task = refl; lives = refl }
-
-pub process_then : (x y z : Process) → ProcessAlike x y → ProcessAlike y z → ProcessAlike x z
-process_then x y z f g =
-    record { own = g.own ∙ f.own; owned = λ i n. f.owned i (g.owned i n); critical = g.critical ∙ f.critical; task = g.task ∙ f.task; lives = g.lives ∙ f.lives }
 
 -- each process of w has one in v with the same instances
 abbrev HasAlike : World → World → Type 0
@@ -131,7 +128,7 @@ module _ (w v : World) (instances : AllPairs InstanceAlike w.instances v.instanc
       (home_of o.0, map_forth home_of w.instances k o.0 o.1, o.2.refs r (subst (λ (g : Home). IsInSkeleton g.refs r) m.2 n))
 
   same_length : length (skeleton v).homes ≡ length (skeleton w).homes
-  same_length = ap suc (map_length home_of v.instances ∙ pairs_length InstanceAlike w.instances v.instances instances ∙ sym (map_length home_of w.instances))
+  same_length = ap suc (length_map home_of v.instances ∙ pairs_length InstanceAlike w.instances v.instances instances ∙ sym (length_map home_of w.instances))
 
   -- what parts hold lies on the path
   abbrev pub HoldsOnPath : Type 0

@@ -8,7 +8,6 @@ use Rattle.b67_deeds.specs.Events.{EventState}
 use Rattle.algol_meaning.specs.Rest.{Item}
 use Rattle.algol_meaning.specs.World.{Instance, or_no_instance, instance_at, cell_in, cell_at, Part, Process, State, able, procures, ended, or_no_process, process_at, lives, World}
 use Rattle.algol_meaning.specs.Critical.{referred_by, referred_by_task}
-use Rattle.algol_meaning.specs.Choice.{next_process}
 use Rattle.algol_paths.specs.Blocks.{BlockIsSeen, IsSeenAround, IsInner}
 use Rattle.algol_paths.specs.Laws.{KeepsToText}
 use Rattle.algol_paths.proofs.Statements.{declared_keeps}
@@ -34,7 +33,7 @@ use Rattle.algol_standing.proofs.Started as stacked
 ended_procures : {A : Type 0} (r : Reference) → ended ≡ procures r → A
 ended_procures r e = cc
 
-some_inner : {a b : ℕ} → Some a ≡ Some b → a ≡ b
+pub some_inner : {a b : ℕ} → Some a ≡ Some b → a ≡ b
 some_inner e = cc
 
 module _ (sc : Scopes) (texts : KeepToTexts sc) (w : World) (ok : IsSound sc IsWholeInstance w) (p : ℕ) (q : Process) (part : Part) (outer : List Part) (is : numbered w.processes p ≡ Some q)
@@ -74,9 +73,6 @@ module _ (sc : Scopes) (texts : KeepToTexts sc) (w : World) (ok : IsSound sc IsW
 
   number_next : number ≡ suc (length w.instances)
   number_next = stacked.number_next sc texts w ok p q part outer is todo able_is j parent cells task known around_is parent_some parent_path parent_whole cells_held no_events task_path
-
-  process_next : next_process sc w p q part outer ≡ suc (length w.processes)
-  process_next = stacked.process_next sc texts w ok p q part outer is todo able_is j parent cells task known around_is parent_some parent_path parent_whole cells_held no_events task_path
 
   top_here : IsStanding w top
   top_here = stacked.top_here sc texts w ok p q part outer is todo able_is j parent cells task known around_is parent_some parent_path parent_whole cells_held no_events task_path

@@ -1,6 +1,7 @@
 -- The Enter of a procedure and of a block, by what the head asks for.
 use Rattle.std.proofs.Common.{◌≡◌, ◌⊎◌, ℕ, zero, suc, ◌≤◌, List, [], ◌∷◌, Some, refl, sym, ap, ◌∙◌, subst, arith}
 use Rattle.b67_list.specs.Numbered.{numbered}
+use Rattle.b67_list.proofs.Numbers.{none_some}
 use Rattle.algol_tree.specs.declared.tree.Named.{Named}
 use Rattle.algol_tree.specs.Plain.{PBody}
 use Rattle.algol_tree.specs.Blocks.{spot_of, number_at, around}
@@ -18,7 +19,6 @@ use Rattle.algol_calls.specs.Fits.{IsCallee}
 use Rattle.algol_standing.specs.Worlds.{held_in_givens, newest_own, skeleton, IsStanding, IsOnPath, IsNoBlock, IsWholeInstance, IsSound}
 use Rattle.algol_calls.specs.Texts.{KeepToTexts}
 use Rattle.algol_standing.proofs.Calls.{PassNoEvents}
-use Rattle.algol_standing.proofs.Lists.{none_some}
 use Rattle.algol_standing.proofs.Standing.{stands_path}
 use Rattle.algol_standing.proofs.Holding.{AreAll}
 use Rattle.algol_standing.proofs.Seen.{there, ancestors, part_ok, part_path, part_stands, home_path, held_ok, top_stands}

@@ -23,7 +23,8 @@ use Rattle.algol_meaning.specs.Asks.{Ask, nothing, ask, resume}
 use Rattle.algol_meaning.specs.Choice.{Choice, choice, choice_in, choice_of, nth_exists, goes, fails, home, here, given_cells, task_of, starts, told_answer, does_with_first, all_followed, waits_for_any, wakes_or_waits, does_with}
 use Rattle.b67_deeds.specs.Deeds as deeds
 use Rattle.b67_deeds.specs.Deeds.{EventDeed, deed}
-use Rattle.algol_meaning.specs.Run.{End, end_of, goes_on, may_go}
+use Rattle.algol_meaning.specs.Run.{end_of, may_go}
+use Rattle.algol_meaning.proofs.Cited.{goes_able}
 use Rattle.algol_standing.specs.Worlds.{newest_own, IsOnPath, HasHead, IsWholeInstance, IsSound}
 use Rattle.algol_paths.specs.Blocks.{BlockIsSeen, IsInner}
 use Rattle.algol_calls.specs.Fits.{AreFew}
@@ -176,10 +177,6 @@ able_by ended e = cc
 pub found : (o : Option Process) → is_able ((or_no_process o).state) ≡ true → o ≡ Some (or_no_process o)
 found None e = cc
 found (Some q) e = refl
-
-goes_able : (o : Option End) (b : Bool) → goes_on o b ≡ true → b ≡ true
-goes_able None b e = e
-goes_able (Some x) b e = cc
 
 pub may_go_able : (w : World) (p : ℕ) → may_go w p ≡ true → is_able ((process_at w p).state) ≡ true
 unfolding may_go

@@ -1,13 +1,15 @@
 -- The newest instances of a stack are left, and other things are held in it: what stands, and what lies on paths.
 use Rattle.std.proofs.Common.{◌≡◌, ◌⊎◌, ℕ, ◌<◌, List, [], ◌∷◌, ◌++◌, Some, Bool, true, false, refl, sym, ap, ◌∙◌, subst, arith}
 use Rattle.std.specs.Prelude.{slice_get, slice_set}
+use Rattle.algol_laws.proofs.Cells.{set_other}
+use Rattle.b67_list.proofs.Lists.{set_set_here}
 use Rattle.algol_standing.specs.Skeleton.{Evaluation, IsEvaluated, Stack, Home, Skeleton, IsInSkeleton, Owned, SkeletonStands, OnPath, SkeletonOk, AreFree, AreIdle, evaluated}
-use Rattle.algol_standing.proofs.Lists.{some_same, get-set, get-set_other, same_or_other}
+use Rattle.algol_standing.proofs.Lists.{some_same, get_set, same_or_other}
 use Rattle.algol_standing.proofs.Standing.{set_cases, home_stands}
 use Rattle.algol_standing.proofs.Growth.{path_up}
 use Rattle.algol_standing.proofs.Shrink.{leave_ok, path_left}
 use Rattle.algol_standing.proofs.Firsts.{evaluations_ok, evaluations_grow}
-use Rattle.algol_standing.proofs.Going.{set_twice, goes_ok, goes_path}
+use Rattle.algol_standing.proofs.Going.{goes_ok, goes_path}
 use Rattle.algol_standing.proofs.Seen.{in_front, in_back, in_either}
 
 not_below : (x i : ℕ) → x ≡ i → i < x → ⊥
@@ -56,13 +58,13 @@ module _ (s : Skeleton) (ok : SkeletonOk s) (p : ℕ) (q : Stack) (is : slice_ge
     where
       in_rest : IsInSkeleton newer b ⊎ IsInSkeleton rest b → SkeletonStands dropped b
       in_rest (◌⊎◌.inl n) = absurd (out n)
-      in_rest (◌⊎◌.inr n) = record { number = p; stack = kept; is = get-set s.stacks p kept q is; inside = n }
+      in_rest (◌⊎◌.inr n) = record { number = p; stack = kept; is = get_set s.stacks p kept q is; inside = n }
 
       by : (p ≡ st.number) ⊎ (p ≡ st.number → ⊥) → SkeletonStands dropped b
       by (◌⊎◌.inl f) =
           let same : st.stack ≡ q = some_same st.is (ap (λ n. slice_get s.stacks n) (sym f) ∙ is) in
           in_rest (in_either newer rest b (subst (λ z. IsInSkeleton z b) (ap (λ (z : Stack). z.own) same ∙ own) st.inside))
-      by (◌⊎◌.inr n) = record { number = st.number; stack = st.stack; is = get-set_other s.stacks p st.number kept n ∙ st.is; inside = st.inside }
+      by (◌⊎◌.inr n) = record { number = st.number; stack = st.stack; is = set_other s.stacks p st.number kept n ∙ st.is; inside = st.inside }
 
   module _ (free : AreFree s newer) (held : (e : Evaluation) → IsEvaluated es e → IsInSkeleton rest e.over × OnPath s e.over e.within) where
     -- first other things are held
@@ -76,7 +78,7 @@ module _ (s : Skeleton) (ok : SkeletonOk s) (p : ℕ) (q : Stack) (is : slice_ge
     evaluated_ok = evaluations_ok s ok p q is es fine
 
     other_at : slice_get (evaluated s p q es).stacks p ≡ Some other
-    other_at = get-set s.stacks p other q is
+    other_at = get_set s.stacks p other q is
 
     free_then : AreFree (evaluated s p q es) newer
     free_then i n k y e lives c = by (set_cases s.stacks p k other y e)
@@ -94,13 +96,13 @@ module _ (s : Skeleton) (ok : SkeletonOk s) (p : ℕ) (q : Stack) (is : slice_ge
     pub dropped_ok : q.live ≡ true → live ≡ true → SkeletonOk dropped
     dropped_ok lived lives =
         subst (λ (b : Bool). SkeletonOk (record s { stacks = slice_set s.stacks p (record { own = rest; evaluations = es; critical = q.critical; live = b }) })) (sym lives)
-        (subst (λ (z : List Stack). SkeletonOk (record s { stacks = z })) (set_twice s.stacks p other (record other { own = rest; live = true }))
+        (subst (λ (z : List Stack). SkeletonOk (record s { stacks = z })) (set_set_here s.stacks p other (record other { own = rest; live = true }))
         (goes_ok newer (evaluated s p q es) evaluated_ok p other rest other_at own lived free_then idle))
 
     pub dropped_path : q.live ≡ true → live ≡ true → (a b : ℕ) → OnPath s a b → (IsInSkeleton newer a → ⊥) → OnPath dropped a b
     dropped_path lived lives a b l out =
         subst (λ (c : Bool). OnPath (record s { stacks = slice_set s.stacks p (record { own = rest; evaluations = es; critical = q.critical; live = c }) }) a b) (sym lives)
-        (subst (λ (z : List Stack). OnPath (record s { stacks = z }) a b) (set_twice s.stacks p other (record other { own = rest; live = true }))
+        (subst (λ (z : List Stack). OnPath (record s { stacks = z }) a b) (set_set_here s.stacks p other (record other { own = rest; live = true }))
         (goes_path newer (evaluated s p q es) evaluated_ok p other rest other_at own lived free_then idle a b (path_then a b l) out))
 
     -- the last instance of a stack, which ends
@@ -119,11 +121,11 @@ module _ (s : Skeleton) (ok : SkeletonOk s) (p : ℕ) (q : Stack) (is : slice_ge
 
       pub ended_ok : SkeletonOk dropped
       ended_ok =
-          subst (λ (z : List Stack). SkeletonOk (record s { stacks = z })) (set_twice s.stacks p other (record other { own = rest; live = live }))
+          subst (λ (z : List Stack). SkeletonOk (record s { stacks = z })) (set_set_here s.stacks p other (record other { own = rest; live = live }))
           (leave_ok (evaluated s p q es) evaluated_ok p other i rest other_at own_only free_i idle_i live (λ e. none) dead_lives)
 
       pub ended_path : (a b : ℕ) → OnPath s a b → (IsInSkeleton newer a → ⊥) → OnPath dropped a b
       ended_path a b l out =
-          subst (λ (z : List Stack). OnPath (record s { stacks = z }) a b) (set_twice s.stacks p other (record other { own = rest; live = live }))
+          subst (λ (z : List Stack). OnPath (record s { stacks = z }) a b) (set_set_here s.stacks p other (record other { own = rest; live = live }))
           (path_left (evaluated s p q es) evaluated_ok p other i rest other_at own_only free_i idle_i live (λ e. none) dead_lives a b (path_then a b l)
           (λ e. out (subst (λ xs. IsInSkeleton xs a) (sym only) (◌⊎◌.inl e))))

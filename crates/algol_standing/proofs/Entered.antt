@@ -40,9 +40,6 @@ module _ (sc : Scopes) (texts : KeepToTexts sc) (w : World) (ok : IsSound sc IsW
     (around_is : around sc.blocks j ≡ (instance_at w parent).block ∷ around sc.blocks ((instance_at w parent).block)) (parent_some : 1 ≤ parent)
     (parent_path : IsOnPath w (newest_own (part ∷ outer)) parent) (parent_whole : IsWholeInstance w parent) (cells_held : AreAll (CellOk sc IsWholeInstance w ok (newest_own (part ∷ outer))) cells)
     (no_events : AreAll IsNoEvent cells) (opens_it : Opens (ask part.rest)) (plainly : opens_plain (ask part.rest) ≡ true) where
-  fine : Fine sc w (part ∷ outer)
-  fine = stacked.fine sc texts w ok p q part outer is todo able_is j parent cells purpose owns known around_is parent_some parent_path parent_whole cells_held no_events opens_it plainly
-
   abbrev around_it : Part
   around_it = stacked.around_it sc texts w ok p q part outer is todo able_is j parent cells purpose owns known around_is parent_some parent_path parent_whole cells_held no_events opens_it plainly
 

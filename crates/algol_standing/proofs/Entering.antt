@@ -2,6 +2,8 @@
 use Rattle.std.proofs.Common.{◌≡◌, ◌⊎◌, ℕ, suc, ◌+◌, ◌<◌, ◌≤◌, List, [], ◌∷◌, length, map, Some, Bool, true, false, refl, sym, ap, ◌∙◌, subst, arith}
 use Rattle.std.specs.Prelude.{slice_get, slice_set, if◌then◌else◌}
 use Rattle.b67_list.specs.Numbered.{numbered}
+use Rattle.b67_list.proofs.Lists.{length_map, set_set_here}
+use Rattle.b67_list.proofs.Numbered.{numbered_set}
 use Rattle.algol_tree.specs.Blocks.{block_numbered, around}
 use Rattle.algol_tree.specs.Scopes.{Scopes}
 use Rattle.algol_meaning.specs.Value.{Cell}
@@ -12,19 +14,18 @@ use Rattle.algol_meaning.specs.Critical.{is_evaluation, own_instances, referred_
 use Rattle.algol_meaning.specs.Instances.{fresh_cells}
 use Rattle.algol_meaning.specs.Asks.{ask}
 use Rattle.algol_meaning.specs.Choice.{with_new_instance, new_part}
-use Rattle.algol_laws.proofs.Cells.{numbered_set, numbered_other}
+use Rattle.algol_laws.proofs.Cells.{numbered_other}
 use Rattle.algol_laws.proofs.Standing.{opens_plain}
 use Rattle.algol_standing.specs.Skeleton.{Evaluation, IsEvaluated, Stack, Skeleton, IsInSkeleton, SkeletonStands, OnPath, here, SkeletonOk, entered_skeleton, evaluated}
 use Rattle.algol_standing.specs.Worlds.{parent_in, referred_in_cells, home_of, held_in_rest, newest_own, held_by, stack_of, skeleton, IsStanding, IsOnPath, IsAmongParts, IsWholeInstance, IsSound}
 use Rattle.algol_calls.specs.Texts.{KeepToTexts}
 use Rattle.algol_standing.proofs.Calls.{IsNoEvent}
-use Rattle.algol_standing.proofs.Lists.{get-set, some_same, same_or_other}
+use Rattle.algol_standing.proofs.Lists.{get_set, some_same, same_or_other}
 use Rattle.algol_standing.proofs.Standing.{set_cases}
 use Rattle.algol_standing.proofs.Growth.{stands_up, path_up, enter_ok, enter_grows}
 use Rattle.algol_standing.proofs.Firsts.{evaluations_ok, evaluations_grow}
-use Rattle.algol_standing.proofs.Going.{set_twice}
 use Rattle.algol_standing.proofs.Holding.{AreAll, items_hold}
-use Rattle.algol_standing.proofs.Pairs.{map_length, stack_forth}
+use Rattle.algol_standing.proofs.Pairs.{stack_forth}
 use Rattle.algol_standing.proofs.Seen.{CellOk, all_refs, in_either, evaluated_either, top_inside}
 use Rattle.algol_standing.proofs.Stacks.{skeleton_entered, numbered_front, numbered_new}
 use Rattle.algol_standing.proofs.Fine.{Fine, fine_of}
@@ -81,7 +82,7 @@ module _ (sc : Scopes) (texts : KeepToTexts sc) (w : World) (ok : IsSound sc IsW
   v = with_process (with_new_instance sc w p q part outer j parent p cells) p after
 
   pub number_is : number ≡ length (skeleton w).homes
-  number_is = let m : length (map home_of w.instances) ≡ length w.instances = map_length home_of w.instances in omega (arith, m)
+  number_is = let m : length (map home_of w.instances) ≡ length w.instances = length_map home_of w.instances in omega (arith, m)
 
   pub number_next : number ≡ suc (length w.instances)
   number_next = omega arith
@@ -121,7 +122,7 @@ module _ (sc : Scopes) (texts : KeepToTexts sc) (w : World) (ok : IsSound sc IsW
   grown = record (stack_of q) { own = length (skeleton w).homes ∷ own_instances q.todo }
 
   grown_at : slice_get s1.stacks p ≡ Some grown
-  grown_at = get-set (skeleton w).stacks p grown (stack_of q) at
+  grown_at = get_set (skeleton w).stacks p grown (stack_of q) at
 
   abbrev held : List Evaluation
   held = held_by (inner ∷ around_it ∷ outer)
@@ -162,7 +163,7 @@ module _ (sc : Scopes) (texts : KeepToTexts sc) (w : World) (ok : IsSound sc IsW
       skeleton_entered w v p q after new is refl refl
       ∙ (ap (λ (o : List ℕ). record { stacks = slice_set (skeleton w).stacks p (record { own = o; evaluations = held; critical = q.critical; live = lives q.state }); homes = s1.homes }) own_is
       ∙ ap (λ (ss : List Stack). record { stacks = ss; homes = s1.homes })
-      (sym (set_twice (skeleton w).stacks p grown (record { own = length (skeleton w).homes ∷ own_instances q.todo; evaluations = held; critical = q.critical; live = lives q.state }))))
+      (sym (set_set_here (skeleton w).stacks p grown (record { own = length (skeleton w).homes ∷ own_instances q.todo; evaluations = held; critical = q.critical; live = lives q.state }))))
 
   pub v_ok : SkeletonOk (skeleton v)
   v_ok = subst (λ (z : Skeleton). SkeletonOk z) (sym skeleton_is) s2_ok
@@ -180,7 +181,7 @@ module _ (sc : Scopes) (texts : KeepToTexts sc) (w : World) (ok : IsSound sc IsW
   pub new_stands : IsStanding v number
   new_stands =
       subst (λ (z : Skeleton). SkeletonStands z number) (sym skeleton_is)
-      (record { number = p; stack = record grown { evaluations = held }; is = get-set s1.stacks p (record grown { evaluations = held }) grown grown_at; inside = ◌⊎◌.inl (sym number_is) })
+      (record { number = p; stack = record grown { evaluations = held }; is = get_set s1.stacks p (record grown { evaluations = held }) grown grown_at; inside = ◌⊎◌.inl (sym number_is) })
 
   pub stood : (i : ℕ) → IsStanding v i → IsStanding w i ⊎ (i ≡ number)
   stood i st = before (subst (λ (z : Skeleton). SkeletonStands z i) skeleton_is st)

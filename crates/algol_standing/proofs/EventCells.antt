@@ -2,19 +2,23 @@
 use Rattle.std.proofs.Common.{◌≡◌, ◌⊎◌, ℕ, List, [], ◌∷◌, Option, None, Some, Bool, true, false, refl, sym, ap, ◌∙◌, subst}
 use Rattle.std.specs.Prelude.{if◌then◌else◌, ◌==◌, ◌&&◌, ◌||◌, slice_get, slice_set, zero, suc}
 use Rattle.b67_list.specs.Numbered.{numbered, set_numbered}
+use Rattle.b67_list.proofs.Numbered.{numbered_set}
+use Rattle.b67_list.proofs.Numbers.{number_itself, same_number}
+use Rattle.b67_list.proofs.Truths.{and_both, false_true, or_left, or_second}
 use Rattle.algol_tree.specs.Sorts.{same_name}
+use Rattle.algol_tree.proofs.Names.{same_name_is, same_name_itself}
 use Rattle.algol_meaning.specs.Value.{Reference, event}
 use Rattle.b67_deeds.specs.Events.{EventState}
 use Rattle.algol_meaning.specs.World.{NamedCell, Instance, or_no_instance, instance_at, cell_in, cell_at, cells_with, event_in, World}
 use Rattle.algol_meaning.specs.Events.{event_at, set_event, change_event, same_reference, reference_is_among}
-use Rattle.algol_laws.proofs.Cells.{numbered_set, numbered_other, same_number, itself, same_name_is, same_name_refl, with_other}
+use Rattle.algol_laws.proofs.Cells.{numbered_other, with_other}
 use Rattle.algol_standing.proofs.Lists.{same_or_other}
 use Rattle.algol_standing.proofs.Pairs.{set_or}
 
 no_event : (d : EventState) → cell_in [] [] ≡ event d → ⊥
 no_event d e = cc
 
-put_nowhere : {A : Type 0} (xs : List A) (k : ℕ) (y : A) → slice_get xs k ≡ None → slice_get (slice_set xs k y) k ≡ None
+pub put_nowhere : {A : Type 0} (xs : List A) (k : ℕ) (y : A) → slice_get xs k ≡ None → slice_get (slice_set xs k y) k ≡ None
 put_nowhere [] k y e = refl
 put_nowhere (x ∷ xs) zero y e = cc
 put_nowhere (x ∷ xs) (suc k) y e = put_nowhere xs k y e
@@ -40,9 +44,6 @@ event_with (x ∷ cells) n e d f = by (same_name x.name n) refl (λ g. event_wit
 
 pub reference_same : (r s : Reference) → r.instance ≡ s.instance → r.name ≡ s.name → r ≡ s
 reference_same r s e f = ap (λ (i : ℕ). record { instance = i; name = r.name }) e ∙ ap (λ (n : List ℕ). record { instance = s.instance; name = n }) f
-
-pub false_true : (b : Bool) → b ≡ false → b ≡ true → ⊥
-false_true b e f = let no : false ≡ true = sym e ∙ f in cc
 
 pub event_set : (w : World) (r s : Reference) (e d : EventState) (y : Instance) → numbered w.instances r.instance ≡ Some y → cell_at (set_event w r e) s ≡ event d →
     ((r ≡ s) × (d ≡ e)) ⊎ ((r ≡ s → ⊥) × (cell_at w s ≡ event d))
@@ -71,7 +72,7 @@ event_set w r s e d y there f = by (same_or_other r.instance s.instance)
     )
       where
         other : r.name ≡ s.name → ⊥
-        other g = false_true (same_name r.name s.name) n (subst (λ m. same_name r.name m ≡ true) g (same_name_refl r.name))
+        other g = false_true (same_name r.name s.name) n (subst (λ m. same_name r.name m ≡ true) g (same_name_itself r.name))
 
     by : (r.instance ≡ s.instance) ⊎ (r.instance ≡ s.instance → ⊥) → ((r ≡ s) × (d ≡ e)) ⊎ ((r ≡ s → ⊥) × (cell_at w s ≡ event d))
     by (◌⊎◌.inl same) = named_by (same_name r.name s.name) refl same
@@ -87,7 +88,7 @@ references r s = by (same_or_other r.instance s.instance)
     named_by true n same = ◌⊎◌.inl (reference_same r s same (same_name_is r.name s.name n))
     named_by false n same =
         ◌⊎◌.inr
-        (λ g. false_true (same_name r.name s.name) n (subst (λ m. same_name r.name m ≡ true) (ap (λ (t : Reference). t.name) g) (same_name_refl r.name)))
+        (λ g. false_true (same_name r.name s.name) n (subst (λ m. same_name r.name m ≡ true) (ap (λ (t : Reference). t.name) g) (same_name_itself r.name)))
 
     by : (r.instance ≡ s.instance) ⊎ (r.instance ≡ s.instance → ⊥) → (r ≡ s) ⊎ (r ≡ s → ⊥)
     by (◌⊎◌.inl same) = named_by (same_name r.name s.name) refl same
@@ -95,17 +96,13 @@ references r s = by (same_or_other r.instance s.instance)
 
 -- ---- whether references are the same
 
-and_true : (a b : Bool) → (a && b) ≡ true → (a ≡ true) × (b ≡ true)
-and_true true b e = (refl, e)
-and_true false b e = cc
-
 pub same_is : (r s : Reference) → same_reference r s ≡ true → r ≡ s
 same_is r s e =
-    let both = and_true (r.instance == s.instance) (same_name r.name s.name) e in
+    let both = and_both (r.instance == s.instance) (same_name r.name s.name) e in
     reference_same r s (same_number r.instance s.instance both.0) (same_name_is r.name s.name both.1)
 
 pub same_self : (r : Reference) → same_reference r r ≡ true
-same_self r = ap (λ b. b && same_name r.name r.name) (itself r.instance) ∙ same_name_refl r.name
+same_self r = ap (λ b. b && same_name r.name r.name) (number_itself r.instance) ∙ same_name_itself r.name
 
 pub same_or_not : (r s : Reference) → (same_reference r s ≡ true) ⊎ (same_reference r s ≡ false)
 same_or_not r s = by (same_reference r s) refl
@@ -117,16 +114,8 @@ same_or_not r s = by (same_reference r s) refl
 pub not_same : (r s : Reference) → same_reference r s ≡ false → r ≡ s → ⊥
 not_same r s e f = false_true (same_reference r s) e (subst (λ t. same_reference r t ≡ true) f (same_self r))
 
-or_first : (a b : Bool) → a ≡ true → (a || b) ≡ true
-or_first true b e = refl
-or_first false b e = cc
-
-or_second : (a b : Bool) → a ≡ false → (a || b) ≡ b
-or_second true b e = cc
-or_second false b e = refl
-
 pub among_first : (t : Reference) (rs : List Reference) (s : Reference) → same_reference t s ≡ true → reference_is_among (t ∷ rs) s ≡ true
-among_first t rs s e = or_first (same_reference t s) (reference_is_among rs s) e
+among_first t rs s e = or_left (same_reference t s) (reference_is_among rs s) e
 
 pub among_more : (t : Reference) (rs : List Reference) (s : Reference) → same_reference t s ≡ false → reference_is_among (t ∷ rs) s ≡ reference_is_among rs s
 among_more t rs s e = or_second (same_reference t s) (reference_is_among rs s) e
@@ -188,29 +177,6 @@ module _ (change : EventState → EventState) (nobody_has : change (event_in (ce
       by None e =
           ap (λ p. event_in (cell_in ((or_no_instance p).cells) t.name)) (set_nowhere w.instances t.instance z e)
           ∙ (sym nobody_has ∙ ap (λ p. change (event_in (cell_in ((or_no_instance p).cells) t.name))) (sym e))
-
--- where an event is, another one is set
-with_there : (cells : List NamedCell) (n : List ℕ) (d e : EventState) → cell_in cells n ≡ event d → cell_in (cells_with cells n (event e)) n ≡ event e
-with_there [] n d e f = cc
-with_there (x ∷ cells) n d e f = by (same_name x.name n) refl f (λ g. with_there cells n d e g)
-  where
-    by : (b : Bool) → same_name x.name n ≡ b → (if b then x.cell else cell_in cells n) ≡ event d →
-        (cell_in cells n ≡ event d → cell_in (cells_with cells n (event e)) n ≡ event e) →
-        cell_in (if b then record x { cell = event e } ∷ cells else x ∷ cells_with cells n (event e)) n ≡ event e
-    by true h g go = ap (λ b. if b then event e else cell_in cells n) h
-    by false h g go = ap (λ b. if b then x.cell else cell_in (cells_with cells n (event e)) n) h ∙ go g
-
-pub cell_there : (w : World) (t : Reference) (d e : EventState) → cell_at w t ≡ event d → cell_at (set_event w t e) t ≡ event e
-cell_there w t d e f = by (numbered w.instances t.instance) refl
-  where
-    z : Instance
-    z = record (instance_at w t.instance) { cells = cells_with ((instance_at w t.instance).cells) t.name (event e) }
-
-    by : (o : Option Instance) → numbered w.instances t.instance ≡ o → cell_at (set_event w t e) t ≡ event e
-    by (Some y) g =
-        ap (λ p. cell_in ((or_no_instance p).cells) t.name) (numbered_set w.instances t.instance y z g)
-        ∙ with_there ((instance_at w t.instance).cells) t.name d e f
-    by None g = absurd (no_event d (ap (λ p. cell_in ((or_no_instance p).cells) t.name) (sym g) ∙ f))
 
 -- .. and where one is after another was set, that is it, or it was there
 pub event_back : (w : World) (r s : Reference) (e d : EventState) → cell_at (set_event w r e) s ≡ event d →

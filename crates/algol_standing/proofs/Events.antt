@@ -3,6 +3,7 @@ use Rattle.std.proofs.Common.{arith, ◌≡◌, ◌⊎◌, ℕ, ◌≤◌, List,
 use Rattle.std.specs.Prelude.{take}
 use Rattle.b67_limits.specs.declared.TheConstants.{MOST_EVENTS}
 use Rattle.b67_list.specs.Numbered.{numbered}
+use Rattle.b67_list.proofs.Numbered.{numbered_set}
 use Rattle.b67_deeds.specs.declared.EventAct.TheVariants as act
 use Rattle.b67_deeds.specs.declared.EventTest.TheVariants as test
 use Rattle.b67_deeds.specs.Deeds as deeds
@@ -17,7 +18,6 @@ use Rattle.algol_meaning.specs.World.{Part, Process, State, able, waits_for, pro
 use Rattle.algol_meaning.specs.Events.{event_at, change_event, list_in, all_withdrawn, released}
 use Rattle.algol_meaning.specs.Asks.{nothing, ask, resume}
 use Rattle.algol_meaning.specs.Choice.{told_answer, did, deed_does}
-use Rattle.algol_laws.proofs.Cells.{numbered_set}
 use Rattle.algol_laws.proofs.Releasing.{changed_processes, able_instances}
 use Rattle.algol_standing.specs.Worlds.{held_in_answer, newest_own, skeleton, IsOnPath, IsStanding, Awaits, WaitersAreListed, IsAwaited, IsFew, IsWholeInstance, IsSound}
 use Rattle.algol_standing.proofs.Awaiting.{awaits_able, awaits_procures}

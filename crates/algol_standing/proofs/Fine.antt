@@ -2,12 +2,13 @@
 use Rattle.std.proofs.Common.{◌≡◌, ◌⊎◌, ℕ, zero, suc, List, [], ◌∷◌, ◌++◌, Some, Bool, true, false, refl, sym, ap, ◌∙◌, subst}
 use Rattle.std.specs.Prelude.{slice_get, if◌then◌else◌}
 use Rattle.b67_list.specs.Numbered.{numbered}
+use Rattle.b67_list.proofs.Numbers.{none_some}
 use Rattle.algol_tree.specs.Scopes.{Scopes}
 use Rattle.algol_meaning.specs.World.{Part, Process, World}
 use Rattle.algol_meaning.specs.Critical.{is_evaluation, own_instances, referred_by}
 use Rattle.algol_standing.specs.Skeleton.{Evaluation, IsEvaluated, Home, IsInSkeleton, SkeletonOk}
 use Rattle.algol_standing.specs.Worlds.{held_in_rest, newest_own, held_by, stack_of, skeleton, IsStanding, IsOnPath, IsAmongParts, PartsAreGiven, IsWholeInstance, PartOk, IsSound}
-use Rattle.algol_standing.proofs.Lists.{none_some, some_same}
+use Rattle.algol_standing.proofs.Lists.{some_same}
 use Rattle.algol_standing.proofs.Standing.{stands_path, home_stands}
 use Rattle.algol_standing.proofs.Pairs.{stack_forth}
 use Rattle.algol_standing.proofs.Seen.{evaluated_front, evaluated_back, evaluated_either}

@@ -2,6 +2,7 @@
 use Rattle.std.proofs.Common.{◌≡◌, ◌⊎◌, ℕ, zero, suc, ◌<◌, ◌≤◌, List, [], ◌∷◌, Some, None, true, false, refl, sym, ap, ◌∙◌, subst, arith}
 use Rattle.std.specs.Prelude.{slice_get}
 use Rattle.b67_list.specs.Numbered.{numbered}
+use Rattle.b67_list.proofs.Numbers.{none_some}
 use Rattle.algol_tree.specs.Blocks.{block_numbered}
 use Rattle.algol_tree.specs.Scopes.{Scopes}
 use Rattle.algol_meaning.specs.Value.{event}
@@ -19,7 +20,6 @@ use Rattle.algol_standing.specs.Skeleton.{Evaluation, IsEvaluated, Stack, Home, 
 use Rattle.algol_standing.specs.Worlds.{home_of, held_in_rest, held_by, stack_of, skeleton, IsStanding, IsOnPath, IsOwn, IsAmongParts, outermost, IsWholeInstance, PartOk, ProcessOk, InstanceOk, IsSound}
 use Rattle.algol_standing.specs.Lows.{LeadsLow, InstanceLow, PartLow, IsLow, IsMaking}
 use Rattle.algol_calls.specs.Texts.{HasOuterBlock}
-use Rattle.algol_standing.proofs.Lists.{none_some}
 use Rattle.algol_standing.proofs.Holding.{AreAll, items_hold}
 use Rattle.algol_standing.proofs.Seen.{evaluated_either}
 use Rattle.algol_standing.proofs.Changed.{IsPlain}

@@ -1,8 +1,9 @@
 -- The first instance on a path of those that are referred to: all the others lie on the path from it. And evaluations.
 use Rattle.std.proofs.Common.{◌≡◌, ◌⊎◌, ℕ, ◌<◌, List, [], ◌∷◌, Option, Some, refl, sym, ap, ◌∙◌, subst, arith}
 use Rattle.std.specs.Prelude.{slice_get}
-use Rattle.algol_standing.specs.Skeleton.{Evaluation, IsEvaluated, Stack, Home, Skeleton, IsInSkeleton, NextIn, Owned, SkeletonStands, SkeletonNext, OnPath, here, down, FirstOf, this, further, SkeletonOk, evaluating, evaluated, started}
-use Rattle.algol_standing.proofs.Lists.{some_same, get-set, get-set_other, same_or_other}
+use Rattle.algol_laws.proofs.Cells.{set_other}
+use Rattle.algol_standing.specs.Skeleton.{Evaluation, IsEvaluated, Stack, Home, Skeleton, IsInSkeleton, NextIn, Owned, SkeletonStands, SkeletonNext, OnPath, here, down, FirstOf, this, further, SkeletonOk, evaluated, started}
+use Rattle.algol_standing.proofs.Lists.{some_same, get_set, same_or_other}
 use Rattle.algol_standing.proofs.Standing.{set_cases, stands_path, home_stands}
 use Rattle.algol_standing.proofs.Growth.{Grown, Grows, stands_up, path_up, start_ok}
 
@@ -86,11 +87,11 @@ module _ (s : Skeleton) (ok : SkeletonOk s) (p : ℕ) (q : Stack) (is : slice_ge
           let same : q ≡ y = some_same is (ap (λ n. slice_get s.stacks n) f ∙ e) in
           record {
             stack = other;
-            is = ap (λ n. slice_get t.stacks n) (sym f) ∙ get-set s.stacks p other q is;
+            is = ap (λ n. slice_get t.stacks n) (sym f) ∙ get_set s.stacks p other q is;
             inside = λ b n. subst (λ (z : Stack). IsInSkeleton z.own b) (sym same) n;
             next = λ a b n. subst (λ (z : Stack). NextIn z.critical z.own a b) (sym same) n;
           }
-      by (◌⊎◌.inr f) = record { stack = y; is = get-set_other s.stacks p k other f ∙ e; inside = λ b n. n; next = λ a b n. n }
+      by (◌⊎◌.inr f) = record { stack = y; is = set_other s.stacks p k other f ∙ e; inside = λ b n. n; next = λ a b n. n }
 
   -- each stack is an old one but for its evaluations
   was : (k : ℕ) (y : Stack) → slice_get t.stacks k ≡ Some y → (z : Stack) × (slice_get s.stacks k ≡ Some z) × (y.own ≡ z.own) × (y.critical ≡ z.critical) × (y.live ≡ z.live)
@@ -122,14 +123,3 @@ module _ (s : Skeleton) (ok : SkeletonOk s) (p : ℕ) (q : Stack) (is : slice_ge
               let o = fine e (subst (λ (z : Stack). IsEvaluated z.evaluations e) f.1 n) in
               (subst (λ (z : Stack). IsInSkeleton z.own e.over) (sym f.1) o.0, path_up s t evaluations_grow e.over e.within o.1)
           by (◌⊎◌.inr f) = let o = ok.evaluates k y e f.1 n in (o.0, path_up s t evaluations_grow e.over e.within o.1)
-
-pub evaluate_ok : (s : Skeleton) → SkeletonOk s → (p : ℕ) (q : Stack) (i a : ℕ) (r : List ℕ) → slice_get s.stacks p ≡ Some q → q.own ≡ i ∷ r → OnPath s i a → SkeletonOk (evaluating s p q (record { over = i; within = a }))
-evaluate_ok s ok p q i a r is own path = evaluations_ok s ok p q is (record { over = i; within = a } ∷ q.evaluations) fine
-  where
-    fine : (e : Evaluation) → IsEvaluated (record { over = i; within = a } ∷ q.evaluations) e → IsInSkeleton q.own e.over × OnPath s e.over e.within
-    fine e (◌⊎◌.inl f) =
-        subst (λ (x : Evaluation). IsInSkeleton q.own x.over × OnPath s x.over x.within) f (subst (λ o. IsInSkeleton o i) (sym own) (◌⊎◌.inl refl), path)
-    fine e (◌⊎◌.inr n) = ok.evaluates p q e is n
-
-pub finish_ok : (s : Skeleton) → SkeletonOk s → (p : ℕ) (q : Stack) (e : Evaluation) (rest : List Evaluation) → slice_get s.stacks p ≡ Some q → q.evaluations ≡ e ∷ rest → SkeletonOk (evaluated s p q rest)
-finish_ok s ok p q e rest is are = evaluations_ok s ok p q is rest (λ x n. ok.evaluates p q x is (subst (λ l. IsEvaluated l x) (sym are) (◌⊎◌.inr n)))

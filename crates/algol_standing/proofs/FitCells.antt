@@ -11,7 +11,7 @@ use Rattle.algol_meaning.specs.Value.{initial_value, Value, number, Cell, simple
 use Rattle.algol_meaning.specs.World.{NamedCell, cell_in, cells_with}
 use Rattle.algol_meaning.specs.Instances.{parameter_cells, initial_cells, result_cells, variable_cells, fresh_cells}
 use Rattle.algol_calls.specs.Fits.{CellFits, parameter_sort}
-use Rattle.algol_calls.proofs.Sorts.{true_false}
+use Rattle.b67_list.proofs.Numbers.{absurd_truth}
 use Rattle.algol_standing.specs.Fitting.{ParametersFit}
 use Rattle.algol_standing.proofs.Lists.{false_true}
 use Rattle.algol_standing.proofs.Holding.{AreAll}
@@ -118,7 +118,7 @@ parameters_with (p ∷ ps) (d ∷ cells) m c e i = by (same_name d.name m) refl 
 
     by : (b : Bool) → same_name d.name m ≡ b → (is_formal (parameter_sort ps m) ≡ false → ParametersFit ps (cells_with cells m c)) →
         ParametersFit (p ∷ ps) (if b then record d { cell = c } ∷ cells else d ∷ cells_with cells m c)
-    by true g h = (i.0, λ f. true_false (sym f ∙ sort_is true g), i.2)
+    by true g h = (i.0, λ f. absurd_truth (sym f ∙ sort_is true g), i.2)
     by false g h = (i.0, i.1, h (sort_is false g))
 
 pub parameters_more : (ps : List Parameter) (cells more : List NamedCell) → ParametersFit ps cells → ParametersFit ps (cells ++ more)
@@ -134,6 +134,6 @@ parameter_fits (p ∷ ps) (d ∷ cells) m i = by (same_name p.name m) (same_name
   where
     by : (a b : Bool) → a ≡ b → CellFits (parameter_sort ps m) (cell_in cells m) → CellFits (if a then p.sort else parameter_sort ps m) (if b then d.cell else cell_in cells m)
     by true true e h = i.1
-    by true false e h = true_false e
+    by true false e h = absurd_truth e
     by false true e h = false_true e
     by false false e h = h

@@ -2,6 +2,7 @@
 use Rattle.std.proofs.Common.{◌≡◌, ◌⊎◌, ℕ, zero, suc, ◌<◌, List, [], ◌∷◌, ◌++◌, length, Option, Some, None, true, false, refl, sym, ap, ◌∙◌, subst}
 use Rattle.std.specs.Prelude.{slice_get}
 use Rattle.b67_list.specs.Numbered.{numbered}
+use Rattle.b67_list.proofs.Numbers.{none_some}
 use Rattle.algol_tree.specs.declared.tree.Named.{Named}
 use Rattle.algol_tree.specs.Plain as tree
 use Rattle.algol_tree.specs.Plain.{PExpr, PBody}
@@ -26,7 +27,7 @@ use Rattle.algol_calls.proofs.Statements.{settled_fits}
 use Rattle.algol_calls.proofs.Rests.{evaluated_fits, located_fits}
 use Rattle.algol_standing.specs.Worlds.{held_in_rest, held_in_givens, IsAmongParts, IsWholeInstance, IsSound}
 use Rattle.algol_standing.specs.Fitting.{ParametersFit, parameters_at, IsPlainAt, LeadsRight, InstanceFits, PartFits, ProcessFits, WorldFits}
-use Rattle.algol_standing.proofs.Lists.{none_some, false_true, get-last}
+use Rattle.algol_standing.proofs.Lists.{false_true, get_last}
 use Rattle.algol_standing.proofs.Holding.{AreAll, settle_holds, settle_place_holds, PlaceHolds, evaluated_holds, items_hold}
 use Rattle.algol_standing.proofs.FitCells.{finds_fresh, parameters_more}
 use Rattle.algol_standing.proofs.FitWorlds.{Extends, extends_self, extends_then, all_right, plain_too, instance_too, process_too, new_extends, new_fits}
@@ -43,7 +44,7 @@ more_process sc w v y fits h e f =
 
     each : (k : ℕ) (z : Process) → numbered (w.processes ++ y ∷ []) k ≡ Some z → ProcessFits sc v z
     each zero z g = none_some g
-    each (suc k) z g = process_too sc w v more z (by (get-last w.processes y k z g))
+    each (suc k) z g = process_too sc w v more z (by (get_last w.processes y k z g))
       where
         by : (slice_get w.processes k ≡ Some z) ⊎ ((k ≡ length w.processes) × (z ≡ y)) → ProcessFits sc w z
         by (◌⊎◌.inl m) = fits.processes (suc k) z m

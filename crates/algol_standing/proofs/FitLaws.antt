@@ -1,6 +1,7 @@
 -- The laws of worlds in which calls fit.
 use Rattle.std.proofs.Common.{◌≡◌, ◌⊎◌, ℕ, zero, suc, List, [], ◌∷◌, ◌++◌, Some, None, Bool, true, false, refl, sym, ap, subst}
 use Rattle.b67_list.specs.Numbered.{numbered}
+use Rattle.b67_list.proofs.Numbers.{none_some}
 use Rattle.algol_tree.specs.Blocks.{Block, block_numbered}
 use Rattle.algol_tree.specs.Sorts.{Sort}
 use Rattle.algol_tree.specs.Scopes.{Scopes}
@@ -18,7 +19,7 @@ use Rattle.algol_calls.proofs.Statements.{settled_fits}
 use Rattle.algol_standing.specs.Worlds.{held_in_rest, IsAmongParts, HasHead, IsWholeInstance, IsSound}
 use Rattle.algol_standing.specs.Fitting.{ParametersFit, LeadsRight, InstanceFits, PartFits, ProcessFits, WorldFits}
 use Rattle.algol_standing.proofs.Calls.{IsNoEvent, PassNoEvents, CallFits, HeadFits}
-use Rattle.algol_standing.proofs.Lists.{none_some, false_true}
+use Rattle.algol_standing.proofs.Lists.{false_true}
 use Rattle.algol_standing.proofs.Holding.{items_hold}
 use Rattle.algol_standing.proofs.Choosing.{able_by, found, may_go_able}
 use Rattle.algol_standing.proofs.FitCells.{finds_fresh, parameters_more}

@@ -1,6 +1,7 @@
 -- The cells of the names that a part sees, where calls fit: what stands for something else leads there.
 use Rattle.std.proofs.Common.{◌≡◌, ℕ, List, ◌∷◌, Some, Bool, true, false, refl, sym, ap, ◌∙◌, subst}
 use Rattle.b67_list.specs.Numbered.{numbered}
+use Rattle.b67_list.proofs.Numbers.{absurd_truth}
 use Rattle.algol_tree.specs.declared.tree.Named.{Named}
 use Rattle.algol_tree.specs.Sorts.{is_formal, is_by_name}
 use Rattle.algol_tree.specs.Scopes.{Scopes, use_of}
@@ -10,7 +11,6 @@ use Rattle.algol_meaning.specs.World.{Instance, instance_at, cell_in, cell_at, b
 use Rattle.algol_meaning.specs.Choice.{home, here}
 use Rattle.algol_paths.specs.Blocks.{BlockIsSeen}
 use Rattle.algol_calls.specs.Fits.{IsLink, CellFits, parameter_sort, own_sort, NameIsTold, IsSettled, NameLeads}
-use Rattle.algol_calls.proofs.Sorts.{true_false}
 use Rattle.algol_standing.specs.Worlds.{newest_own, skeleton, IsWholeInstance, IsSound}
 use Rattle.algol_standing.specs.Fitting.{parameters_at, IsPlainAt, LeadsRight, WorldFits}
 use Rattle.algol_standing.proofs.Standing.{stands_path}
@@ -71,7 +71,7 @@ module _ (sc : Scopes) (w : World) (ok : IsSound sc IsWholeInstance w) (fits : W
 
   linked_by : (b : Bool) (c : Cell) (r : Reference) → b ≡ false → IsLink b c → LeadsRight sc w c → IsPlainAt sc w (by_cell c r)
   linked_by b (reference s) r e i h = h
-  linked_by b (named m) r e i h = true_false (sym i ∙ e)
+  linked_by b (named m) r e i h = absurd_truth (sym i ∙ e)
   linked_by b (simple v) r e i h = absurd i
   linked_by b (event d) r e i h = absurd i
   linked_by b (array a) r e i h = absurd i

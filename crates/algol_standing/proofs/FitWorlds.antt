@@ -1,7 +1,9 @@
 -- Worlds that change in an instance, a process, or by new ones: calls stay fitting.
 use Rattle.std.proofs.Common.{◌≡◌, ◌⊎◌, ℕ, zero, suc, List, [], ◌∷◌, ◌++◌, length, Option, Some, None, true, false, refl, sym, ap, ◌∙◌, subst}
-use Rattle.std.specs.Prelude.{slice_get, slice_set}
+use Rattle.std.specs.Prelude.{slice_get}
 use Rattle.b67_list.specs.Numbered.{numbered, set_numbered}
+use Rattle.b67_list.proofs.Lists.{get_front}
+use Rattle.b67_list.proofs.Numbers.{none_some}
 use Rattle.algol_tree.specs.Sorts.{is_formal}
 use Rattle.algol_tree.specs.Scopes.{Scopes}
 use Rattle.algol_meaning.specs.Value.{Reference, Cell, simple, event, array, named, reference}
@@ -10,10 +12,11 @@ use Rattle.algol_meaning.specs.Instances.{leave}
 use Rattle.algol_calls.specs.Fits.{parameter_sort}
 use Rattle.algol_standing.specs.Worlds.{held_in_rest}
 use Rattle.algol_standing.specs.Fitting.{ParametersFit, parameters_at, IsPlainAt, LeadsRight, AllLeadRight, InstanceFits, PartFits, ProcessFits, WorldFits}
-use Rattle.algol_standing.proofs.Lists.{none_some, some_same, false_true, get-front, get-last}
+use Rattle.algol_standing.proofs.Lists.{some_same, false_true, get_last}
 use Rattle.algol_standing.proofs.Pairs.{set_or}
 use Rattle.algol_standing.proofs.Holding.{AreAll}
 use Rattle.algol_standing.proofs.FitCells.{finds_with, finds_more, parameters_with, parameters_more}
+use Rattle.algol_standing.proofs.EventCells.{put_nowhere}
 
 -- each instance of w is one of v, of the same block
 abbrev pub Extends : World → World → Type 0
@@ -28,15 +31,10 @@ extends_then u w v f g i x e =
     let z = g i y.0 y.1 in
     (z.0, z.1, z.2 ∙ y.2)
 
-set_none : {A : Type 0} (xs : List A) (k : ℕ) (y : A) → slice_get xs k ≡ None → slice_get (slice_set xs k y) k ≡ None
-set_none [] k y e = refl
-set_none (x ∷ xs) zero y e = cc
-set_none (x ∷ xs) (suc k) y e = set_none xs k y e
-
 -- what is set where nothing stood does not stand there
 set_nowhere : {A B : Type 0} (xs : List A) (i : ℕ) (y z : A) → numbered xs i ≡ None → numbered (set_numbered xs i y) i ≡ Some z → B
 set_nowhere xs zero y z e f = none_some f
-set_nowhere xs (suc k) y z e f = none_some (sym (set_none xs k y e) ∙ f)
+set_nowhere xs (suc k) y z e f = none_some (sym (put_nowhere xs k y e) ∙ f)
 
 module _ (sc : Scopes) where
   pub all_right : (w : World) (cells : List Cell) → AreAll (LeadsRight sc w) cells → AllLeadRight sc w cells
@@ -191,11 +189,11 @@ module _ (sc : Scopes) where
   module _ (w : World) (fits : WorldFits sc w) (y : Instance) (v : World) (instances : v.instances ≡ w.instances ++ y ∷ []) (processes : v.processes ≡ w.processes) where
     front : (k : ℕ) (x : Instance) → numbered w.instances k ≡ Some x → numbered (w.instances ++ y ∷ []) k ≡ Some x
     front zero x e = none_some e
-    front (suc k) x e = get-front w.instances (y ∷ []) k x e
+    front (suc k) x e = get_front w.instances (y ∷ []) k x e
 
     last : (k : ℕ) (x : Instance) → numbered (w.instances ++ y ∷ []) k ≡ Some x → (numbered w.instances k ≡ Some x) ⊎ (x ≡ y)
     last zero x e = none_some e
-    last (suc k) x e = by (get-last w.instances y k x e)
+    last (suc k) x e = by (get_last w.instances y k x e)
       where
         by : (slice_get w.instances k ≡ Some x) ⊎ ((k ≡ length w.instances) × (x ≡ y)) → (slice_get w.instances k ≡ Some x) ⊎ (x ≡ y)
         by (◌⊎◌.inl f) = ◌⊎◌.inl f

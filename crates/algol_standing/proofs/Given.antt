@@ -2,6 +2,7 @@
 use Rattle.std.proofs.Common.{◌≡◌, ◌⊎◌, ℕ, zero, suc, ◌≤◌, List, [], ◌∷◌, Some, Bool, true, false, refl, sym, ap, ◌∙◌, subst, arith}
 use Rattle.std.specs.Prelude.{slice_get}
 use Rattle.b67_list.specs.Numbered.{numbered}
+use Rattle.b67_list.proofs.Numbers.{none_some}
 use Rattle.algol_tree.specs.declared.tree.Named.{Named}
 use Rattle.algol_tree.specs.Plain.{PExpr}
 use Rattle.algol_tree.specs.Blocks.{around}
@@ -20,7 +21,7 @@ use Rattle.algol_calls.specs.Fits.{IsCallee}
 use Rattle.algol_standing.specs.Skeleton.{IsInSkeleton}
 use Rattle.algol_standing.specs.Worlds.{held_in_givens, newest_own, skeleton, IsStanding, IsOnPath, PartIsPlaced, outermost, inside, IsAmongParts, IsNoBlock, IsWholeInstance, KeepsActual, PartOk, IsSound}
 use Rattle.algol_standing.proofs.Calls.{IsNoEvent, PassNoEvents}
-use Rattle.algol_standing.proofs.Lists.{false_true, none_some}
+use Rattle.algol_standing.proofs.Lists.{false_true}
 use Rattle.algol_standing.proofs.Standing.{stands_path}
 use Rattle.algol_standing.proofs.Holding.{AreAll}
 use Rattle.algol_standing.proofs.Seen.{CellOk, there, instance_is, parent_path, part_ok, part_path, part_stands, home_path}

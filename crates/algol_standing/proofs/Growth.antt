@@ -1,17 +1,20 @@
 -- A new instance, on top of a stack or as the base of a new one, keeps the world facts.
 use Rattle.std.proofs.Common.{◌≡◌, ◌⊎◌, ℕ, ◌+◌, ◌<◌, List, [], ◌∷◌, ◌++◌, length, Some, true, false, refl, sym, ap, ◌∙◌, subst, arith, length-append}
 use Rattle.std.specs.Prelude.{slice_get}
+use Rattle.algol_laws.proofs.Cells.{set_other}
+use Rattle.b67_list.proofs.Lists.{get_front, get_within}
+use Rattle.b67_list.proofs.Truths.{true_false}
 use Rattle.algol_standing.specs.Skeleton.{Evaluation, IsEvaluated, entered_skeleton, started, Stack, Home, Skeleton, IsInSkeleton, NextIn, Owned, SkeletonStands, SkeletonNext, OnPath, here, down, SkeletonOk}
-use Rattle.algol_standing.proofs.Lists.{some_same, get-small, get-front, get-seam, get-last, get-set, get-set_other, same_or_other}
-use Rattle.algol_standing.proofs.Standing.{true_false, set_cases, lives, stands_path, home_stands, stands_small}
+use Rattle.algol_standing.proofs.Lists.{some_same, get_seam, get_last, get_set, same_or_other}
+use Rattle.algol_standing.proofs.Standing.{set_cases, lives, stands_path, home_stands, stands_small}
 
 pub owned_front : (homes : List Home) (h : Home) (p : ℕ) (own : List ℕ) → Owned homes p own → Owned (homes ++ h ∷ []) p own
 owned_front homes h p [] o = tt
-owned_front homes h p (x ∷ xs) o = (o.0, get-front homes (h ∷ []) x o.0 o.1, o.2, o.3, owned_front homes h p xs o.4)
+owned_front homes h p (x ∷ xs) o = (o.0, get_front homes (h ∷ []) x o.0 o.1, o.2, o.3, owned_front homes h p xs o.4)
 
 pub owned_small : (homes : List Home) (p : ℕ) (own : List ℕ) (a : ℕ) → Owned homes p own → IsInSkeleton own a → a < length homes
 owned_small homes p [] a o i = absurd i
-owned_small homes p (x ∷ xs) a o (◌⊎◌.inl e) = omega (arith, get-small homes x o.0 o.1, e)
+owned_small homes p (x ∷ xs) a o (◌⊎◌.inl e) = omega (arith, get_within homes x o.0 o.1, e)
 owned_small homes p (x ∷ xs) a o (◌⊎◌.inr i) = owned_small homes p xs a o.4 i
 
 -- each stack of s has grown
@@ -36,7 +39,7 @@ path_up s t g a b (down {b = c} n l) =
 -- the parents of the instances that there were
 module _ (s t : Skeleton) (ok : SkeletonOk s) (g : Grows s t) (h : Home) (homes : t.homes ≡ s.homes ++ h ∷ []) where
   old_home : (a : ℕ) (x : Home) → slice_get s.homes a ≡ Some x → slice_get t.homes a ≡ Some x
-  old_home a x e = ap (λ hs. slice_get hs a) homes ∙ get-front s.homes (h ∷ []) a x e
+  old_home a x e = ap (λ hs. slice_get hs a) homes ∙ get_front s.homes (h ∷ []) a x e
 
   pub old_refers : (a : ℕ) (x : Home) (r : ℕ) → SkeletonStands s a → slice_get t.homes a ≡ Some x → IsInSkeleton x.refs r → OnPath t a r
   old_refers a x r st e n =
@@ -45,7 +48,7 @@ module _ (s t : Skeleton) (ok : SkeletonOk s) (g : Grows s t) (h : Home) (homes 
       path_up s t g a r (ok.refers a y.0 r st y.1 (subst (λ (z : Home). IsInSkeleton z.refs r) (sym same) n))
 
   pub all_known : ((r : ℕ) → IsInSkeleton h.refs r → r < length s.homes) → (a : ℕ) (x : Home) (r : ℕ) → slice_get t.homes a ≡ Some x → IsInSkeleton x.refs r → r < length t.homes
-  all_known small a x r e n = by (get-last s.homes h a x (ap (λ hs. slice_get hs a) (sym homes) ∙ e))
+  all_known small a x r e n = by (get_last s.homes h a x (ap (λ hs. slice_get hs a) (sym homes) ∙ e))
     where
       longer : length t.homes ≡ length s.homes + 1
       longer = omega (arith, ap length homes, length-append s.homes (h ∷ []))
@@ -64,7 +67,7 @@ module _ (s : Skeleton) (ok : SkeletonOk s) (p : ℕ) (q : Stack) (i : ℕ) (r :
   with_entered = entered_skeleton s p q refs
 
   at_p : slice_get with_entered.stacks p ≡ Some above
-  at_p = get-set s.stacks p above q is
+  at_p = get_set s.stacks p above q is
 
   pub enter_grows : Grows s with_entered
   enter_grows k y e = by (same_or_other p k)
@@ -79,7 +82,7 @@ module _ (s : Skeleton) (ok : SkeletonOk s) (p : ℕ) (q : Stack) (i : ℕ) (r :
             inside = λ b n. ◌⊎◌.inr (subst (λ (z : Stack). IsInSkeleton z.own b) (sym same) n);
             next = λ b c n. subst (λ x. NextIn q.critical (length s.homes ∷ x) b c) (sym own) (◌⊎◌.inr (subst (λ x. NextIn x (i ∷ r) b c) (ap (λ (z : Stack). z.critical) (sym same)) (subst (λ x. NextIn y.critical x b c) o n)));
           }
-      by (◌⊎◌.inr f) = record { stack = y; is = get-set_other s.stacks p k above f ∙ e; inside = λ b n. n; next = λ b c n. n }
+      by (◌⊎◌.inr f) = record { stack = y; is = set_other s.stacks p k above f ∙ e; inside = λ b n. n; next = λ b c n. n }
 
   stands_i : SkeletonStands s i
   stands_i = record { number = p; stack = q; is = is; inside = subst (λ x. IsInSkeleton x i) (sym own) (◌⊎◌.inl refl) }
@@ -88,7 +91,7 @@ module _ (s : Skeleton) (ok : SkeletonOk s) (p : ℕ) (q : Stack) (i : ℕ) (r :
   small x n = stands_small s ok x (stands_path s ok i x stands_i (paths x n))
 
   new_home : (x : Home) → slice_get with_entered.homes (length s.homes) ≡ Some x → x ≡ record { refs = refs; process = p }
-  new_home x e = some_same e (get-seam s.homes (record { refs = refs; process = p }) [])
+  new_home x e = some_same e (get_seam s.homes (record { refs = refs; process = p }) [])
 
   enter_owned : (k : ℕ) (y : Stack) → slice_get with_entered.stacks k ≡ Some y → Owned with_entered.homes k y.own
   enter_owned k y e = by (set_cases s.stacks p k above y e)
@@ -100,7 +103,7 @@ module _ (s : Skeleton) (ok : SkeletonOk s) (p : ℕ) (q : Stack) (i : ℕ) (r :
       by (◌⊎◌.inl f) =
           subst (λ n. Owned with_entered.homes n y.own) (sym f.0) (subst (λ (z : Stack). Owned with_entered.homes p z.own) (sym f.1) (
             record { refs = refs; process = p },
-            get-seam s.homes (record { refs = refs; process = p }) [],
+            get_seam s.homes (record { refs = refs; process = p }) [],
             refl,
             λ b n. owned_small s.homes p q.own b old n,
             owned_front s.homes (record { refs = refs; process = p }) p q.own old,
@@ -176,24 +179,24 @@ module _ (s : Skeleton) (ok : SkeletonOk s) (c : ℕ) (refs : List ℕ) (stands 
   with_started = started s refs c
 
   pub start_grows : Grows s with_started
-  start_grows k y e = record { stack = y; is = get-front s.stacks (base ∷ []) k y e; inside = λ b n. n; next = λ b c n. n }
+  start_grows k y e = record { stack = y; is = get_front s.stacks (base ∷ []) k y e; inside = λ b n. n; next = λ b c n. n }
 
   start_owned : (k : ℕ) (y : Stack) → slice_get with_started.stacks k ≡ Some y → Owned with_started.homes k y.own
-  start_owned k y e = by (get-last s.stacks base k y e)
+  start_owned k y e = by (get_last s.stacks base k y e)
     where
       by : (slice_get s.stacks k ≡ Some y) ⊎ ((k ≡ length s.stacks) × (y ≡ base)) → Owned with_started.homes k y.own
       by (◌⊎◌.inl f) = owned_front s.homes base_home k y.own (ok.owned k y f)
       by (◌⊎◌.inr f) =
           subst (λ n. Owned with_started.homes n y.own) (sym f.0) (subst (λ (z : Stack). Owned with_started.homes (length s.stacks) z.own) (sym f.1)
-          (base_home, get-seam s.homes base_home [], refl, λ b n. absurd n, tt))
+          (base_home, get_seam s.homes base_home [], refl, λ b n. absurd n, tt))
 
   start_refers : (b : ℕ) (x : Home) (t : ℕ) → SkeletonStands with_started b → slice_get with_started.homes b ≡ Some x → IsInSkeleton x.refs t → OnPath with_started b t
-  start_refers b x t st e m = by (get-last s.stacks base st.number st.stack st.is)
+  start_refers b x t st e m = by (get_last s.stacks base st.number st.stack st.is)
     where
       top : length s.homes ≡ b → OnPath with_started b t
       top f =
-          let first : SkeletonNext with_started (length s.homes) c = record { number = length s.stacks; stack = base; is = get-seam s.stacks base []; next = (refl, refl) } in
-          let is_new : x ≡ base_home = some_same (ap (λ n. slice_get with_started.homes n) f ∙ e) (get-seam s.homes base_home []) in
+          let first : SkeletonNext with_started (length s.homes) c = record { number = length s.stacks; stack = base; is = get_seam s.stacks base []; next = (refl, refl) } in
+          let is_new : x ≡ base_home = some_same (ap (λ n. slice_get with_started.homes n) f ∙ e) (get_seam s.homes base_home []) in
           let up : OnPath with_started (length s.homes) t = down first (path_up s with_started start_grows c t (paths t (subst (λ (z : Home). IsInSkeleton z.refs t) is_new m))) in
           subst (λ n. OnPath with_started n t) f up
 
@@ -206,14 +209,14 @@ module _ (s : Skeleton) (ok : SkeletonOk s) (c : ℕ) (refs : List ℕ) (stands 
       by (◌⊎◌.inr f) = inside (subst (λ (z : Stack). IsInSkeleton z.own b) f.1 st.inside)
 
   start_evaluates : (k : ℕ) (y : Stack) (e : Evaluation) → slice_get with_started.stacks k ≡ Some y → IsEvaluated y.evaluations e → IsInSkeleton y.own e.over × OnPath with_started e.over e.within
-  start_evaluates k y e g n = by (get-last s.stacks base k y g)
+  start_evaluates k y e g n = by (get_last s.stacks base k y g)
     where
       by : (slice_get s.stacks k ≡ Some y) ⊎ ((k ≡ length s.stacks) × (y ≡ base)) → IsInSkeleton y.own e.over × OnPath with_started e.over e.within
       by (◌⊎◌.inl f) = let o = ok.evaluates k y e f n in (o.0, path_up s with_started start_grows e.over e.within o.1)
       by (◌⊎◌.inr f) = absurd (subst (λ (z : Stack). IsEvaluated z.evaluations e) f.1 n)
 
   start_holds : (k : ℕ) (y : Stack) (d : ℕ) → slice_get with_started.stacks k ≡ Some y → y.live ≡ true → y.critical ≡ Some d → SkeletonStands with_started d
-  start_holds k y d e live cr = by (get-last s.stacks base k y e)
+  start_holds k y d e live cr = by (get_last s.stacks base k y e)
     where
       crit : Some c ≡ Some d → c ≡ d
       crit h = cc
@@ -223,7 +226,7 @@ module _ (s : Skeleton) (ok : SkeletonOk s) (c : ℕ) (refs : List ℕ) (stands 
       by (◌⊎◌.inr f) = stands_up s with_started start_grows d (subst (λ n. SkeletonStands s n) (crit (ap (λ (z : Stack). z.critical) (sym f.1) ∙ cr)) stands)
 
   start_ended : (k : ℕ) (y : Stack) → slice_get with_started.stacks k ≡ Some y → y.live ≡ false → y.own ≡ []
-  start_ended k y e dead = by (get-last s.stacks base k y e)
+  start_ended k y e dead = by (get_last s.stacks base k y e)
     where
       by : (slice_get s.stacks k ≡ Some y) ⊎ ((k ≡ length s.stacks) × (y ≡ base)) → y.own ≡ []
       by (◌⊎◌.inl f) = ok.ended k y f dead

@@ -7,20 +7,17 @@ use Rattle.b67_deeds.specs.Deeds.{tests, deed}
 use Rattle.algol_meaning.specs.Value.{Reference, Cell, event}
 use Rattle.algol_meaning.specs.World.{cell_at, event_in, World}
 use Rattle.algol_meaning.specs.Events.{event_at, change_event, same_reference, reference_is_among, joined_all}
+use Rattle.b67_list.proofs.Truths.{false_true}
 use Rattle.algol_standing.proofs.Pairs.{AllPairs, pairs_self, pairs_then}
 use Rattle.algol_standing.proofs.Alike.{InstanceAlike, instance_self, instance_then}
 use Rattle.algol_standing.proofs.Changed.{changed_alike}
-use Rattle.algol_standing.proofs.EventCells.{false_true, same_is, same_self, same_or_not, not_same, among_first, among_more, among_later, cell_apart, cell_there, event_back}
+use Rattle.algol_standing.proofs.EventCells.{same_self, same_or_not, not_same, among_first, among_more, among_later, cell_apart, event_back}
 
 module _ (p : ℕ) where
   abbrev pub with_joined : World → Reference → World
   with_joined w t = change_event w t (deed (tests test.WaitAny) p (event_at w t)).change
 
   -- ---- what is true of the rest of the list
-
-  -- an event that is seen is among those that are seen then
-  seen_first : (t : Reference) (seen : List Reference) (s : Reference) → reference_is_among seen t ≡ true → same_reference t s ≡ true → reference_is_among seen s ≡ true
-  seen_first t seen s e f = subst (λ u. reference_is_among seen u ≡ true) (same_is t s f) e
 
   -- ---- the events
 
@@ -46,29 +43,6 @@ module _ (p : ℕ) where
           cell_at (if b then joined_all w p (t ∷ seen) rs else (joined_all (with_joined w t) p (t ∷ seen) rs)) s ≡ cell_at w s
       by true e f g = f (more (same_or_not t s) o)
       by false e f g = g (more (same_or_not t s) o) ∙ cell_apart w t s (joined p (event_at w t)) (other e o)
-
-  -- each different event of the list has the process at the end of its waiters
-  pub joined_cell : (w : World) (seen rs : List Reference) (s : Reference) (d : EventState) → cell_at w s ≡ event d → reference_is_among rs s ≡ true → reference_is_among seen s ≡ false →
-      cell_at (joined_all w p seen rs) s ≡ event (joined p d)
-  joined_cell w seen [] s d f m n = cc
-  joined_cell w seen (t ∷ rs) s d f m n = by (reference_is_among seen t) refl (same_or_not t s)
-      (λ m n. joined_cell w (t ∷ seen) rs s d f m n) (λ g m n. joined_cell (with_joined w t) (t ∷ seen) rs s d g m n)
-    where
-      now : same_reference t s ≡ true → cell_at (with_joined w t) s ≡ event (joined p d)
-      now e =
-          subst (λ (u : Reference). cell_at (with_joined w u) s ≡ event (joined p d)) (sym (same_is t s e))
-          (cell_there w s d (joined p (event_at w s)) f ∙ ap (λ (c : Cell). event (joined p (event_in c))) f)
-
-      by : (b : Bool) → reference_is_among seen t ≡ b → (same_reference t s ≡ true) ⊎ (same_reference t s ≡ false) →
-          (reference_is_among rs s ≡ true → reference_is_among (t ∷ seen) s ≡ false → cell_at (joined_all w p (t ∷ seen) rs) s ≡ event (joined p d)) →
-          (cell_at (with_joined w t) s ≡ event d → reference_is_among rs s ≡ true → reference_is_among (t ∷ seen) s ≡ false →
-          cell_at (joined_all (with_joined w t) p (t ∷ seen) rs) s ≡ event (joined p d)) →
-          cell_at (if b then joined_all w p (t ∷ seen) rs else (joined_all (with_joined w t) p (t ∷ seen) rs)) s ≡ event (joined p d)
-      by true e (◌⊎◌.inl g) h k = absurd (false_true (reference_is_among seen s) n (seen_first t seen s e g))
-      by true e (◌⊎◌.inr g) h k = h (sym (among_more t rs s g) ∙ m) (among_more t seen s g ∙ n)
-      by false e (◌⊎◌.inl g) h k = joined_other (with_joined w t) (t ∷ seen) rs s (◌⊎◌.inl (among_first t seen s g)) ∙ now g
-      by false e (◌⊎◌.inr g) h k =
-          k (cell_apart w t s (joined p (event_at w t)) (not_same t s g) ∙ f) (sym (among_more t rs s g) ∙ m) (among_more t seen s g ∙ n)
 
   -- an event that is there then is one that the process has joined, or it was there
   pub joined_back : (w : World) (seen rs : List Reference) (s : Reference) (d : EventState) → cell_at (joined_all w p seen rs) s ≡ event d →

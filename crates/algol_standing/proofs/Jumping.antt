@@ -2,6 +2,7 @@
 use Rattle.std.proofs.Common.{◌≡◌, ◌⊎◌, ℕ, ◌<◌, List, [], ◌∷◌, ◌++◌, length, Some, Bool, true, false, refl, sym, ap, ◌∙◌, subst, append_assoc}
 use Rattle.std.specs.Prelude.{if◌then◌else◌, ◌==◌}
 use Rattle.b67_list.specs.Numbered.{numbered}
+use Rattle.b67_list.proofs.Numbers.{same_number}
 use Rattle.b67_num.specs.declared.FaultKind.TheVariants as fault
 use Rattle.algol_tree.specs.declared.tree.Named.{Named}
 use Rattle.algol_tree.specs.Blocks.{block_numbered}
@@ -14,7 +15,6 @@ use Rattle.algol_meaning.specs.Critical.{some_depends_on_any, is_evaluation, own
 use Rattle.algol_meaning.specs.Instances.{Cut, is_part_of, cut_at}
 use Rattle.algol_meaning.specs.Asks.{nothing, ask}
 use Rattle.algol_meaning.specs.Choice.{fails, gone, gone_to, goes_to}
-use Rattle.algol_laws.proofs.Cells.{same_number}
 use Rattle.algol_paths.specs.Blocks.{BlockIsSeen, IsSeenAround, IsInner}
 use Rattle.algol_paths.specs.Arrays.{all_to_make}
 use Rattle.algol_paths.specs.Laws.{KeepsToText, ItemsKeepToText}
@@ -64,7 +64,7 @@ target_is x i e = by (is_evaluation x.purpose) refl e
 
 -- ---- lists of parts
 
-own_both : (xs ys : List Part) → own_instances (xs ++ ys) ≡ own_instances xs ++ own_instances ys
+pub own_both : (xs ys : List Part) → own_instances (xs ++ ys) ≡ own_instances xs ++ own_instances ys
 own_both [] ys = refl
 own_both (x ∷ xs) ys = by (is_evaluation x.purpose) (own_both xs ys)
   where

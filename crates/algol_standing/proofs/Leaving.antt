@@ -3,12 +3,16 @@ use Rattle.std.proofs.Common.{◌≡◌, ◌⊎◌, ℕ, zero, suc, ◌<◌, ◌
 use Rattle.std.specs.Prelude.{slice_get, ◌&&◌}
 use Rattle.b67_limits.specs.declared.TheConstants.{MOST_EVENTS}
 use Rattle.b67_list.specs.Numbered.{numbered, set_numbered}
+use Rattle.b67_list.proofs.Numbered.{numbered_set}
+use Rattle.b67_list.proofs.Numbers.{number_itself}
+use Rattle.b67_list.proofs.Truths.{or_left, or_right}
 use Rattle.algol_tree.specs.Scopes.{Scopes}
 use Rattle.algol_meaning.specs.Value.{Reference}
 use Rattle.algol_meaning.specs.World.{Instance, instance_at, cell_in, cell_at, Part, Process, State, able, lives, with_process, World}
 use Rattle.algol_meaning.specs.Critical.{is_this, some_depends, some_depends_on_any, is_evaluation, own_instances}
 use Rattle.algol_meaning.specs.Instances.{leave}
-use Rattle.algol_laws.proofs.Cells.{numbered_set, numbered_other, itself}
+use Rattle.algol_meaning.proofs.Cited.{leave_processes}
+use Rattle.algol_laws.proofs.Cells.{numbered_other}
 use Rattle.algol_paths.specs.Arrays.{all_to_make}
 use Rattle.algol_standing.specs.Skeleton.{Stack, Skeleton, IsInSkeleton, SkeletonStands, OnPath, SkeletonOk, AreFree}
 use Rattle.algol_standing.specs.Worlds.{held_by, stack_of, skeleton, IsStanding, IsOnPath, IsOwn, IsAmongParts, IsAwaited, HasHead, IsWholeInstance, ProcessOk, InstanceOk, IsSound}
@@ -20,9 +24,9 @@ use Rattle.algol_standing.proofs.Unmoved.{unmoved_self}
 use Rattle.algol_standing.proofs.Acted.{IsStillMade}
 use Rattle.algol_standing.proofs.Carried.{part_kept, unmoved_kept, tasks_kept, instance_kept}
 use Rattle.algol_standing.proofs.Dropped.{dropped, dropped_stood, dropped_stands, dropped_ok, dropped_path, ended_ok, ended_path}
-use Rattle.algol_standing.proofs.PathOrder.{or_left, or_right, and_true}
+use Rattle.algol_standing.proofs.PathOrder.{and_true}
 use Rattle.algol_standing.proofs.Awaiting.{no_list}
-use Rattle.algol_standing.proofs.Stacks.{numbered_cases, skeleton_with, leave_processes, leave_homes, leave_length, leave_same, IsLeftAs, leave_back}
+use Rattle.algol_standing.proofs.Stacks.{numbered_cases, skeleton_with, leave_homes, leave_length, leave_same, IsLeftAs, leave_back}
 
 -- ---- no live process depends on them
 
@@ -32,7 +36,7 @@ depends (q ∷ qs) zero i y e l c =
     let same : q ≡ y = cc in
     or_left (lives q.state && is_this q.critical i) (some_depends qs i)
     (and_true (lives q.state) (is_this q.critical i) (ap (λ (z : Process). lives z.state) same ∙ l)
-    (ap (λ (z : Process). is_this z.critical i) same ∙ (ap (λ o. is_this o i) c ∙ itself i)))
+    (ap (λ (z : Process). is_this z.critical i) same ∙ (ap (λ o. is_this o i) c ∙ number_itself i)))
 depends (q ∷ qs) (suc k) i y e l c = or_right (lives q.state && is_this q.critical i) (some_depends qs i) (depends qs k i y e l c)
 
 depends_on_one : (qs : List Process) (is : List ℕ) (i : ℕ) → IsInSkeleton is i → some_depends qs i ≡ true → some_depends_on_any qs is ≡ true

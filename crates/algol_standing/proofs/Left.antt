@@ -1,13 +1,13 @@
 -- Nothing that an instance in use refers to is left.
 use Rattle.std.proofs.Common.{◌≡◌, ◌⊎◌, ℕ, zero, suc, ◌≤◌, List, ◌∷◌, ◌++◌, Some, true, false, refl, sym, ap, ◌∙◌, subst, arith}
 use Rattle.b67_list.specs.Numbered.{numbered}
+use Rattle.b67_list.proofs.Numbers.{none_some}
 use Rattle.algol_tree.specs.Scopes.{Scopes}
 use Rattle.algol_meaning.specs.Value.{Reference}
 use Rattle.algol_meaning.specs.World.{Instance, instance_at, Process, lives, World}
 use Rattle.algol_standing.specs.Skeleton.{Evaluation, IsEvaluated, IsInSkeleton}
 use Rattle.algol_standing.specs.Worlds.{parent_in, referred_in_cells, home_of, newest_own, held_by, stack_of, skeleton, IsStanding, IsWholeInstance, IsSound}
 use Rattle.algol_standing.specs.Laws.{WhatIsReferredToStands, ReferencesLieOnPaths}
-use Rattle.algol_standing.proofs.Lists.{none_some}
 use Rattle.algol_standing.proofs.Standing.{stands_path}
 use Rattle.algol_standing.proofs.Pairs.{stack_forth, home_forth}
 use Rattle.algol_standing.proofs.Seen.{in_back, there, instance_is}

@@ -28,7 +28,6 @@ pub mod Withdrawn
 pub mod Joined
 pub mod Listed
 pub mod Waiting
-pub mod Steps
 pub mod Events
 pub mod Left
 pub mod Leaving

@@ -1,6 +1,7 @@
 -- Procedures and blocks that are entered, processes that are started, names that are evaluated: nobody comes to more of an instance.
 use Rattle.std.proofs.Common.{◌≡◌, ◌⊎◌, ℕ, ◌≤◌, List, [], ◌∷◌, ◌++◌, Option, Some, None, true, false, refl, sym, ◌∙◌, subst, arith}
 use Rattle.b67_list.specs.Numbered.{numbered}
+use Rattle.b67_list.proofs.Numbers.{none_some}
 use Rattle.algol_tree.specs.declared.tree.Named.{Named}
 use Rattle.algol_tree.specs.Plain.{PBody}
 use Rattle.algol_tree.specs.Blocks.{block_numbered, number_at, spot_of}
@@ -22,7 +23,7 @@ use Rattle.algol_paths.proofs.Expressions.{settle_in}
 use Rattle.algol_calls.specs.Fits.{NameIsTold, IsCallee, GivenThen, TaskFits}
 use Rattle.algol_standing.specs.Worlds.{held_in_rest, held_in_givens, IsNoBlock, IsWholeInstance, IsSound}
 use Rattle.algol_standing.specs.Lows.{LeadsLow, InstanceLow}
-use Rattle.algol_standing.proofs.Lists.{none_some, false_true}
+use Rattle.algol_standing.proofs.Lists.{false_true}
 use Rattle.algol_standing.proofs.Holding.{AreAll, settle_holds, evaluated_holds, items_hold}
 use Rattle.algol_standing.proofs.Evaluating.{evaluated_text, subscripted_text, subscripted_holds}
 use Rattle.algol_standing.proofs.LowWorlds.{fresh_low, Low, plain_low, low_all, GoesLow, LowIf, TaskLow, PartsLow, new_instance_low, new_process_low}

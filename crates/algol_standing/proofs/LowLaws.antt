@@ -2,6 +2,7 @@
 use Rattle.std.proofs.Common.{◌≡◌, ◌⊎◌, ℕ, zero, suc, ◌+◌, ◌≤◌, List, [], ◌∷◌, ◌++◌, length, Option, Some, None, Bool, true, false, refl, sym, ap, ◌∙◌, subst, arith}
 use Rattle.std.specs.Prelude.{if◌then◌else◌}
 use Rattle.b67_list.specs.Numbered.{numbered}
+use Rattle.b67_list.proofs.Numbers.{none_some}
 use Rattle.algol_tree.specs.Scopes.{Scopes}
 use Rattle.algol_meaning.specs.Value.{Reference, Cell, simple, event, array, named, reference}
 use Rattle.algol_meaning.specs.World.{NamedCell, Instance, or_no_instance, instance_at, Part, Process, lives, process_at, World}
@@ -18,7 +19,7 @@ use Rattle.algol_standing.specs.Fitting.{WorldFits}
 use Rattle.algol_standing.specs.Lows.{CellLow, AllLow, CellsLow, WorldLow, IsLow, IsMaking}
 use Rattle.algol_standing.specs.Laws.{OthersKeepLow, MakingIsLow}
 use Rattle.algol_calls.specs.Texts.{KeepToTexts}
-use Rattle.algol_standing.proofs.Lists.{none_some, some_same}
+use Rattle.algol_standing.proofs.Lists.{some_same}
 use Rattle.algol_standing.proofs.Standing.{stands_path}
 use Rattle.algol_standing.proofs.Pairs.{stack_forth, home_forth}
 use Rattle.algol_standing.proofs.Seen.{in_front, in_back, there, parent_among, part_ok}

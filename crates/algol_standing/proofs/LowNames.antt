@@ -2,6 +2,7 @@
 use Rattle.std.proofs.Common.{◌≡◌, ◌⊎◌, ℕ, zero, suc, ◌+◌, ◌≤◌, List, [], ◌∷◌, length, Some, Bool, true, false, refl, sym, ap, ◌∙◌, subst, arith}
 use Rattle.std.specs.Prelude.{slice_get, if◌then◌else◌}
 use Rattle.b67_list.specs.Numbered.{numbered}
+use Rattle.b67_list.proofs.Numbers.{none_some}
 use Rattle.algol_tree.specs.declared.tree.Named.{Named}
 use Rattle.algol_tree.specs.Blocks.{block_numbered, around}
 use Rattle.algol_tree.specs.Sorts.{is_formal, is_variable, Parameter, same_name}
@@ -15,14 +16,12 @@ use Rattle.algol_calls.specs.Fits.{parameter_sort, has_parameter, has_simple, Na
 use Rattle.algol_calls.proofs.Simple.{parameter_simple}
 use Rattle.algol_standing.specs.Worlds.{newest_own, skeleton, IsStanding, PartIsPlaced, outermost, inside, IsNoBlock, IsWholeInstance, IsSound}
 use Rattle.algol_standing.specs.Lows.{LeadsLow, CellLow}
-use Rattle.algol_standing.proofs.Lists.{none_some, false_true}
+use Rattle.algol_standing.proofs.Lists.{false_true}
 use Rattle.algol_standing.proofs.Standing.{stands_path}
 use Rattle.algol_standing.proofs.Seen.{there, instance_is, parent_path, part_stands, home_path, top_stands}
 use Rattle.algol_standing.proofs.Asking.{Sees}
 use Rattle.algol_standing.proofs.LowWorlds.{cell_in_low, LowIf}
-
-some_inner : {a b : ℕ} → Some a ≡ Some b → a ≡ b
-some_inner e = cc
+use Rattle.algol_standing.proofs.Begun.{some_inner}
 
 -- what stands for something else is a parameter
 formal_parameter : (ps : List Parameter) (name : List ℕ) → is_formal (parameter_sort ps name) ≡ true → has_parameter ps name ≡ true

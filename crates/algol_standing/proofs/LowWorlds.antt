@@ -2,6 +2,7 @@
 use Rattle.std.proofs.Common.{◌≡◌, ◌⊎◌, ℕ, suc, List, [], ◌∷◌, ◌++◌, length, Option, Some, None, Bool, true, false, refl, sym, ap, ◌∙◌, subst}
 use Rattle.std.specs.Prelude.{if◌then◌else◌}
 use Rattle.b67_list.specs.Numbered.{numbered, set_numbered}
+use Rattle.b67_list.proofs.Numbers.{none_some}
 use Rattle.b67_deeds.specs.declared.EventTest.TheVariants as test
 use Rattle.b67_deeds.specs.Events.{EventState, left_by}
 use Rattle.b67_deeds.specs.Deeds.{tests, deed}
@@ -20,7 +21,7 @@ use Rattle.algol_meaning.specs.Instances.{parameter_cells, initial_cells, result
 use Rattle.algol_paths.specs.Arrays.{all_to_make}
 use Rattle.algol_standing.specs.Worlds.{IsAmongParts}
 use Rattle.algol_standing.specs.Lows.{LeadsLow, CellLow, AllLow, CellsLow, InstanceLow, PartLow}
-use Rattle.algol_standing.proofs.Lists.{none_some, some_same, false_true}
+use Rattle.algol_standing.proofs.Lists.{some_same, false_true}
 use Rattle.algol_standing.proofs.Pairs.{set_or}
 use Rattle.algol_standing.proofs.Holding.{AreAll}
 use Rattle.algol_standing.proofs.Stacks.{numbered_cases, numbered_last}

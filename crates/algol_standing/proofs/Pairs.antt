@@ -2,10 +2,10 @@
 use Rattle.std.proofs.Common.{◌≡◌, ◌⊎◌, ℕ, zero, suc, List, [], ◌∷◌, length, map, Some, None, refl, ap, subst, false}
 use Rattle.std.specs.Prelude.{slice_get, slice_set}
 use Rattle.b67_list.specs.Numbered.{numbered, set_numbered}
+use Rattle.b67_list.proofs.Numbers.{none_some}
 use Rattle.algol_meaning.specs.World.{Instance, Process, World}
 use Rattle.algol_standing.specs.Skeleton.{Stack}
 use Rattle.algol_standing.specs.Worlds.{home_of, stack_of, skeleton}
-use Rattle.algol_standing.proofs.Lists.{none_some}
 
 pub map_back : {A B : Type 0} (f : A → B) (xs : List A) (k : ℕ) (z : B) → slice_get (map f xs) k ≡ Some z → (x : A) × (slice_get xs k ≡ Some x) × (z ≡ f x)
 map_back f [] k z e = none_some e
@@ -16,10 +16,6 @@ pub map_forth : {A B : Type 0} (f : A → B) (xs : List A) (k : ℕ) (x : A) →
 map_forth f [] k x e = none_some e
 map_forth f (y ∷ xs) zero x e = cc
 map_forth f (y ∷ xs) (suc k) x e = map_forth f xs k x e
-
-pub map_length : {A B : Type 0} (f : A → B) (xs : List A) → length (map f xs) ≡ length xs
-map_length f [] = refl
-map_length f (x ∷ xs) = ap suc (map_length f xs)
 
 abbrev pub AllPairs : {A : Type 0} → (A → A → Type 0) → List A → List A → Type 0
 AllPairs R [] [] = Unit {0}

@@ -2,18 +2,20 @@
 use Rattle.std.proofs.Common.{◌≡◌, ◌⊎◌, ℕ, zero, suc, ◌+◌, ◌<◌, ◌≤◌, List, [], ◌∷◌, ◌++◌, length, Option, Some, None, Bool, true, false, refl, sym, ap, ◌∙◌, subst, arith, length-append, append_assoc}
 use Rattle.std.specs.Prelude.{slice_get, if◌then◌else◌, ◌==◌, ◌&&◌, ◌||◌, not}
 use Rattle.b67_list.specs.Numbered.{numbered}
+use Rattle.b67_list.proofs.Lists.{length_map}
+use Rattle.b67_list.proofs.Numbers.{none_some, number_itself, same_number}
+use Rattle.b67_list.proofs.Truths.{and_both, not_false, not_true_is, or_either, or_left, or_right}
 use Rattle.algol_tree.specs.Scopes.{Scopes}
 use Rattle.algol_meaning.specs.World.{Instance, or_no_instance, instance_at, Part, Process, or_no_process, process_at, lives, World}
 use Rattle.algol_meaning.specs.Critical.{is_this, is_evaluation, own_instances, NumberedInstance, newest_first, process_is_one_of, first_on_path}
-use Rattle.algol_laws.proofs.Cells.{itself, same_number}
 use Rattle.algol_standing.specs.Skeleton.{Stack, Home, IsInSkeleton, NextIn, FirstOf, this, further}
 use Rattle.algol_standing.specs.Worlds.{home_of, newest_own, stack_of, skeleton, IsStanding, IsOwn, IsWholeInstance, IsSound}
-use Rattle.algol_standing.proofs.Lists.{none_some, some_same, get-seam, same_or_other}
+use Rattle.algol_standing.proofs.Lists.{some_same, get_seam, same_or_other}
 use Rattle.algol_standing.proofs.Standing.{home_stands, stands_small, lives as stack_lives}
 use Rattle.algol_standing.proofs.Shrink.{next_in}
 use Rattle.algol_standing.proofs.Firsts.{below_in}
-use Rattle.algol_standing.proofs.PathOrder.{or_left, or_right, or_either, and_true, and_both, not_false, not_back, one_of_true, one_of_back, this_true, this_back, lower, between}
-use Rattle.algol_standing.proofs.Pairs.{map_length, stack_forth, stack_back, home_forth}
+use Rattle.algol_standing.proofs.PathOrder.{and_true, one_of_true, one_of_back, this_true, this_back, lower, between}
+use Rattle.algol_standing.proofs.Pairs.{stack_forth, stack_back, home_forth}
 use Rattle.algol_standing.proofs.Seen.{there, instance_is}
 
 -- ---- the list of all instances, the newest first
@@ -41,7 +43,7 @@ newest_down w (x ∷ xs) front e =
     number_is = let f = longer in omega (arith, f)
 
     at : instance_at w (suc (length front)) ≡ x
-    at = ap (λ zs. or_no_instance (slice_get zs (length front))) e ∙ ap or_no_instance (get-seam front x xs)
+    at = ap (λ zs. or_no_instance (slice_get zs (length front))) e ∙ ap or_no_instance (get_seam front x xs)
 
     here : record { number = suc (length front); of = x } ∷ down_from w (length front) ≡ down_from w (length (front ++ x ∷ []))
     here = ap (λ z. record { number = suc (length front); of = z } ∷ down_from w (length front)) (sym at) ∙ ap (λ k. down_from w k) number_is
@@ -84,7 +86,7 @@ module _ (sc : Scopes) (w : World) (ok : IsSound sc IsWholeInstance w) where
     on_true m (◌⊎◌.inl n) =
         let st : IsStanding w m = record { number = p; stack = stack_of q; is = stack_forth w p q is; inside = n } in
         or_left (((instance_at w m).process == p) && not (instance_at w m).left) (is_this ((process_at w p).critical) m)
-        (and_true ((instance_at w m).process == p) (not (instance_at w m).left) (subst (λ k. ((instance_at w m).process == k) ≡ true) (home_process m st) (itself ((instance_at w m).process)))
+        (and_true ((instance_at w m).process == p) (not (instance_at w m).left) (subst (λ k. ((instance_at w m).process == k) ≡ true) (home_process m st) (number_itself ((instance_at w m).process)))
         (not_false ((instance_at w m).left) (not_left m st)))
     on_true m (◌⊎◌.inr e) =
         or_right (((instance_at w m).process == p) && not (instance_at w m).left) (is_this ((process_at w p).critical) m)
@@ -101,7 +103,7 @@ module _ (sc : Scopes) (w : World) (ok : IsSound sc IsWholeInstance w) where
         by : ((((instance_at w m).process == p) && not (instance_at w m).left) ≡ true) ⊎ (is_this ((process_at w p).critical) m ≡ true) → IsOn q m
         by (◌⊎◌.inl f) =
             let g = and_both ((instance_at w m).process == p) (not (instance_at w m).left) f in
-            let st = left_stands m (not_back ((instance_at w m).left) g.1) in
+            let st = left_stands m (not_true_is ((instance_at w m).left) g.1) in
             in_own st (sym (home_process m st) ∙ same_number ((instance_at w m).process) p g.0)
         by (◌⊎◌.inr f) = ◌⊎◌.inr (ap (λ (z : Process). z.critical) (sym at_p) ∙ this_back ((process_at w p).critical) m f)
 
@@ -231,7 +233,7 @@ module _ (sc : Scopes) (w : World) (ok : IsSound sc IsWholeInstance w) where
             record {
               low =
                   let h = stands_small (skeleton w) ok.skeleton_ok (newest_own q.todo) (on_stands p q is live (newest_own q.todo) (◌⊎◌.inl at_top)) in
-                  let n = map_length home_of w.instances in
+                  let n = length_map home_of w.instances in
                   omega (arith, h, n);
               on = ◌⊎◌.inl at_top;
               none = λ m h g o. let l = highest m o in absurd (omega (arith, g, l));

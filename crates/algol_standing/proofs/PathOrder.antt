@@ -1,45 +1,22 @@
 -- The tests of the walk down a path, and the order of a stack.
 use Rattle.std.proofs.Common.{◌≡◌, ◌⊎◌, ℕ, ◌<◌, ◌≤◌, List, [], ◌∷◌, Option, Some, None, Bool, true, false, refl, ap, ◌∙◌, subst, arith}
-use Rattle.std.specs.Prelude.{◌==◌, ◌&&◌, ◌||◌, not}
+use Rattle.std.specs.Prelude.{◌==◌, ◌&&◌}
 use Rattle.algol_meaning.specs.Critical.{is_this, process_is_one_of}
-use Rattle.algol_laws.proofs.Cells.{itself, same_number}
+use Rattle.b67_list.proofs.Numbers.{number_itself, same_number}
+use Rattle.b67_list.proofs.Truths.{or_either, or_left, or_right}
 use Rattle.algol_standing.specs.Skeleton.{Home, IsInSkeleton, NextIn, Owned}
 use Rattle.algol_standing.proofs.Lists.{some_same}
 use Rattle.algol_standing.proofs.Firsts.{below_in}
 
 -- ---- tests
 
-pub or_left : (a b : Bool) → a ≡ true → (a || b) ≡ true
-or_left true b e = refl
-or_left false b e = cc
-
-pub or_right : (a b : Bool) → b ≡ true → (a || b) ≡ true
-or_right true b e = refl
-or_right false b e = e
-
-pub or_either : (a b : Bool) → (a || b) ≡ true → (a ≡ true) ⊎ (b ≡ true)
-or_either true b e = ◌⊎◌.inl refl
-or_either false b e = ◌⊎◌.inr e
-
 pub and_true : (a b : Bool) → a ≡ true → b ≡ true → (a && b) ≡ true
 and_true true b e f = f
 and_true false b e f = cc
 
-pub and_both : (a b : Bool) → (a && b) ≡ true → (a ≡ true) × (b ≡ true)
-and_both true b e = (refl, e)
-and_both false b e = cc
-
-pub not_false : (b : Bool) → b ≡ false → not b ≡ true
-not_false true e = cc
-not_false false e = refl
-
-pub not_back : (b : Bool) → not b ≡ true → b ≡ false
-not_back true e = cc
-not_back false e = refl
-
 pub one_of_true : (js : List ℕ) (i : ℕ) → IsInSkeleton js i → process_is_one_of js i ≡ true
 one_of_true [] i n = absurd n
-one_of_true (j ∷ js) i (◌⊎◌.inl e) = or_left (j == i) (process_is_one_of js i) (subst (λ k. (j == k) ≡ true) e (itself j))
+one_of_true (j ∷ js) i (◌⊎◌.inl e) = or_left (j == i) (process_is_one_of js i) (subst (λ k. (j == k) ≡ true) e (number_itself j))
 one_of_true (j ∷ js) i (◌⊎◌.inr n) = or_right (j == i) (process_is_one_of js i) (one_of_true js i n)
 
 pub one_of_back : (js : List ℕ) (i : ℕ) → process_is_one_of js i ≡ true → IsInSkeleton js i
@@ -51,7 +28,7 @@ one_of_back (j ∷ js) i e = by (or_either (j == i) (process_is_one_of js i) e) 
     by (◌⊎◌.inr f) g = ◌⊎◌.inr (g f)
 
 pub this_true : (o : Option ℕ) (i : ℕ) → o ≡ Some i → is_this o i ≡ true
-this_true o i e = ap (λ c. is_this c i) e ∙ itself i
+this_true o i e = ap (λ c. is_this c i) e ∙ number_itself i
 
 pub this_back : (o : Option ℕ) (i : ℕ) → is_this o i ≡ true → o ≡ Some i
 this_back None i e = cc

@@ -2,6 +2,7 @@
 use Rattle.std.proofs.Common.{◌≡◌, ◌⊎◌, ℕ, zero, suc, ◌≤◌, List, [], ◌∷◌, ◌++◌, map, Some, Bool, true, false, refl, sym, ap, ◌∙◌, subst, arith}
 use Rattle.std.specs.Prelude.{slice_get, if◌then◌else◌}
 use Rattle.b67_list.specs.Numbered.{numbered}
+use Rattle.b67_list.proofs.Numbers.{none_some}
 use Rattle.algol_tree.specs.declared.tree.Named.{Named}
 use Rattle.algol_tree.specs.Blocks.{around}
 use Rattle.algol_tree.specs.Sorts.{same_name}
@@ -12,7 +13,7 @@ use Rattle.algol_meaning.specs.Critical.{own_instances, referred_in, referred_by
 use Rattle.algol_paths.specs.Blocks.{BlockIsSeen}
 use Rattle.algol_standing.specs.Skeleton.{Evaluation, IsEvaluated, Home, IsInSkeleton, here}
 use Rattle.algol_standing.specs.Worlds.{parent_in, referred_in_cells, home_of, held_in_rest, newest_own, held_by, stack_of, skeleton, IsStanding, IsOnPath, IsAmongParts, PartIsPlaced, outermost, inside, IsNameIn, IsNameAmong, IsNameHeld, KeepsActual, PartOk, IsSound}
-use Rattle.algol_standing.proofs.Lists.{none_some, some_same}
+use Rattle.algol_standing.proofs.Lists.{some_same}
 use Rattle.algol_standing.proofs.Standing.{stands_path, path_on, home_stands}
 use Rattle.algol_standing.proofs.Holding.{AreAll}
 use Rattle.algol_standing.proofs.Pairs.{map_back, home_forth, stack_forth, stack_back}

@@ -1,8 +1,9 @@
 -- Leaving the newest instance of a stack, which is no live process's critical one, keeps the world facts.
 use Rattle.std.proofs.Common.{◌≡◌, ◌⊎◌, ℕ, ◌<◌, List, [], ◌∷◌, Option, Some, Bool, true, false, refl, sym, ap, ◌∙◌, subst, arith}
 use Rattle.std.specs.Prelude.{slice_get}
+use Rattle.algol_laws.proofs.Cells.{set_other}
 use Rattle.algol_standing.specs.Skeleton.{Evaluation, IsEvaluated, skeleton_left, Stack, Home, Skeleton, IsInSkeleton, NextIn, Owned, SkeletonStands, SkeletonNext, OnPath, here, down, SkeletonOk}
-use Rattle.algol_standing.proofs.Lists.{some_same, get-set, get-set_other, same_or_other}
+use Rattle.algol_standing.proofs.Lists.{some_same, get_set, same_or_other}
 use Rattle.algol_standing.proofs.Standing.{set_cases, lives, home_stands}
 
 not_itself : {B : Type 0} (a : ℕ) → a < a → B
@@ -39,7 +40,7 @@ module _ (s : Skeleton) (ok : SkeletonOk s) (p : ℕ) (q : Stack) (i : ℕ) (r :
   now = skeleton_left s p q r live
 
   at_p : slice_get now.stacks p ≡ Some rest
-  at_p = get-set s.stacks p rest q is
+  at_p = get_set s.stacks p rest q is
 
   mine : Owned s.homes p (i ∷ r)
   mine = subst (λ x. Owned s.homes p x) own (ok.owned p q is)
@@ -56,7 +57,7 @@ module _ (s : Skeleton) (ok : SkeletonOk s) (p : ℕ) (q : Stack) (i : ℕ) (r :
 
   -- a stack that is not p's is the same
   same_stack : (k : ℕ) (y : Stack) → (p ≡ k → ⊥) → slice_get s.stacks k ≡ Some y → slice_get now.stacks k ≡ Some y
-  same_stack k y other e = get-set_other s.stacks p k rest other ∙ e
+  same_stack k y other e = set_other s.stacks p k rest other ∙ e
 
   pub stands_left : (b : ℕ) → SkeletonStands s b → (i ≡ b → ⊥) → SkeletonStands now b
   stands_left b st other = by (same_or_other p st.number)

@@ -2,13 +2,15 @@
 use Rattle.std.proofs.Common.{◌≡◌, ◌⊎◌, ℕ, zero, suc, ◌<◌, ◌≤◌, List, [], ◌∷◌, ◌++◌, length, map, Some, None, true, false, refl, sym, ap, ◌∙◌, arith}
 use Rattle.std.specs.Prelude.{slice_get, slice_set}
 use Rattle.b67_list.specs.Numbered.{numbered, set_numbered}
+use Rattle.b67_list.proofs.Lists.{get_within, length_map, map_last}
+use Rattle.b67_list.proofs.Numbers.{none_some}
 use Rattle.algol_meaning.specs.World.{Instance, or_no_instance, instance_at, with_instance, Process, World}
 use Rattle.algol_meaning.specs.Instances.{leave}
 use Rattle.algol_standing.specs.Skeleton.{Stack, Home, IsInSkeleton}
 use Rattle.algol_standing.specs.Worlds.{home_of, stack_of, skeleton}
-use Rattle.algol_standing.proofs.Lists.{none_some, get-seam, get-last, get-small}
+use Rattle.algol_standing.proofs.Lists.{get_seam, get_last}
 use Rattle.algol_standing.proofs.Standing.{set_cases}
-use Rattle.algol_standing.proofs.Pairs.{map_length, set_or}
+use Rattle.algol_standing.proofs.Pairs.{set_or}
 
 -- ---- lists
 
@@ -55,10 +57,6 @@ skeleton_with w v (suc k) q after is processes homes =
     ap (λ (ss : List Stack). record { stacks = nobody ∷ ss; homes = nowhere ∷ map home_of v.instances }) (ap (λ ps. map stack_of ps) processes ∙ map_set stack_of w.processes k after)
     ∙ ap (λ (hs : List Home). record { stacks = nobody ∷ slice_set (map stack_of w.processes) k (stack_of after); homes = nowhere ∷ hs }) homes
 
-map_more : {A B : Type 0} (f : A → B) (xs : List A) (y : A) → map f (xs ++ y ∷ []) ≡ map f xs ++ f y ∷ []
-map_more f [] y = refl
-map_more f (x ∷ xs) y = ap (λ zs. f x ∷ zs) (map_more f xs y)
-
 -- .. and an instance was added
 pub skeleton_entered : (w v : World) (p : ℕ) (q after : Process) (x : Instance) → numbered w.processes p ≡ Some q → v.processes ≡ set_numbered w.processes p after →
     v.instances ≡ w.instances ++ x ∷ [] →
@@ -67,15 +65,15 @@ skeleton_entered w v zero q after x is processes instances = none_some is
 skeleton_entered w v (suc k) q after x is processes instances =
     ap (λ (ss : List Stack). record { stacks = nobody ∷ ss; homes = nowhere ∷ map home_of v.instances }) (ap (λ ps. map stack_of ps) processes ∙ map_set stack_of w.processes k after)
     ∙ ap (λ (hs : List Home). record { stacks = nobody ∷ slice_set (map stack_of w.processes) k (stack_of after); homes = nowhere ∷ hs })
-    (ap (λ xs. map home_of xs) instances ∙ map_more home_of w.instances x)
+    (ap (λ xs. map home_of xs) instances ∙ map_last home_of w.instances x)
 
 -- an instance and a process were added
 pub skeleton_started : (w v : World) (y : Process) (x : Instance) → v.processes ≡ w.processes ++ y ∷ [] → v.instances ≡ w.instances ++ x ∷ [] →
     skeleton v ≡ record { stacks = (skeleton w).stacks ++ stack_of y ∷ []; homes = (skeleton w).homes ++ home_of x ∷ [] }
 skeleton_started w v y x processes instances =
-    ap (λ (ss : List Stack). record { stacks = nobody ∷ ss; homes = nowhere ∷ map home_of v.instances }) (ap (λ ps. map stack_of ps) processes ∙ map_more stack_of w.processes y)
+    ap (λ (ss : List Stack). record { stacks = nobody ∷ ss; homes = nowhere ∷ map home_of v.instances }) (ap (λ ps. map stack_of ps) processes ∙ map_last stack_of w.processes y)
     ∙ ap (λ (hs : List Home). record { stacks = nobody ∷ map stack_of w.processes ++ stack_of y ∷ []; homes = nowhere ∷ hs })
-    (ap (λ xs. map home_of xs) instances ∙ map_more home_of w.instances x)
+    (ap (λ xs. map home_of xs) instances ∙ map_last home_of w.instances x)
 
 -- ---- an item that was added
 
@@ -89,11 +87,11 @@ numbered_front {A = A} xs y (suc k) h = by xs k (omega (arith, h))
     by (x ∷ xs) (suc k) g = by xs k (omega (arith, g))
 
 pub numbered_new : {A : Type 0} (xs : List A) (y : A) → numbered (xs ++ y ∷ []) (suc (length xs)) ≡ Some y
-numbered_new xs y = get-seam xs y []
+numbered_new xs y = get_seam xs y []
 
 pub numbered_last : {A : Type 0} (xs : List A) (y : A) (i : ℕ) (z : A) → numbered (xs ++ y ∷ []) i ≡ Some z → (numbered xs i ≡ Some z) ⊎ ((i ≡ suc (length xs)) × (z ≡ y))
 numbered_last xs y zero z e = none_some e
-numbered_last {A = A} xs y (suc k) z e = by (get-last xs y k z e)
+numbered_last {A = A} xs y (suc k) z e = by (get_last xs y k z e)
   where
     by : (slice_get xs k ≡ Some z) ⊎ ((k ≡ length xs) × (z ≡ y)) → (slice_get xs k ≡ Some z) ⊎ ((suc k ≡ suc (length xs)) × (z ≡ y))
     by (◌⊎◌.inl f) = ◌⊎◌.inl f
@@ -101,13 +99,9 @@ numbered_last {A = A} xs y (suc k) z e = by (get-last xs y k z e)
 
 pub numbered_small : {A : Type 0} (xs : List A) (i : ℕ) (z : A) → numbered xs i ≡ Some z → i ≤ length xs
 numbered_small xs zero z e = none_some e
-numbered_small xs (suc k) z e = omega (arith, get-small xs k z e)
+numbered_small xs (suc k) z e = omega (arith, get_within xs k z e)
 
 -- ---- instances that were left
-
-pub leave_processes : (w : World) (is : List ℕ) → (leave w is).processes ≡ w.processes
-leave_processes w [] = refl
-leave_processes w (i ∷ is) = leave_processes (with_instance w i (record (instance_at w i) { left = true })) is
 
 homes_same : (xs : List Instance) (i : ℕ) → map home_of (set_numbered xs i (record (or_no_instance (numbered xs i)) { left = true })) ≡ map home_of xs
 homes_same xs zero = refl
@@ -123,7 +117,7 @@ leave_homes w [] = refl
 leave_homes w (i ∷ is) = leave_homes (with_instance w i (record (instance_at w i) { left = true })) is ∙ homes_same w.instances i
 
 pub leave_length : (w : World) (is : List ℕ) → length (leave w is).instances ≡ length w.instances
-leave_length w is = sym (map_length home_of (leave w is).instances) ∙ (ap length (leave_homes w is) ∙ map_length home_of w.instances)
+leave_length w is = sym (length_map home_of (leave w is).instances) ∙ (ap length (leave_homes w is) ∙ length_map home_of w.instances)
 
 -- what does not tell whether an instance was left stays
 module _ {A : Type 0} (g : Instance → A) (same : (x : Instance) → g (record x { left = true }) ≡ g x) where
@@ -188,15 +182,3 @@ leave_back w (j ∷ is) i y e = by (leave_back (with_instance w j x) is i y e)
             (u : Instance) × (numbered w.instances i ≡ Some u) × IsLeftAs (j ∷ is) i u y
         which z l (◌⊎◌.inl f) = (f.2, f.3, this z f.2 f.0 f.1 f.3 l)
         which z l (◌⊎◌.inr f) = (z, f.1, more z f.0 l)
-
-pub leave_forth : (w : World) (is : List ℕ) (i : ℕ) (x : Instance) → numbered w.instances i ≡ Some x → (y : Instance) × (numbered (leave w is).instances i ≡ Some y)
-leave_forth w [] i x e = (x, e)
-leave_forth w (j ∷ is) i x e = let m = one (set_or w.instances j i z) in leave_forth (with_instance w j z) is i m.0 m.1
-  where
-    z : Instance
-    z = record (instance_at w j) { left = true }
-
-    one : (numbered (set_numbered w.instances j z) i ≡ numbered w.instances i) ⊎ ((j ≡ i) × (numbered (set_numbered w.instances j z) i ≡ Some z)) →
-        (y : Instance) × (numbered (set_numbered w.instances j z) i ≡ Some y)
-    one (◌⊎◌.inl f) = (x, f ∙ e)
-    one (◌⊎◌.inr f) = (z, f.1)

@@ -1,11 +1,9 @@
 -- What lies on the path of a standing instance stands.
 use Rattle.std.proofs.Common.{◌≡◌, ◌⊎◌, ℕ, zero, suc, ◌<◌, List, [], ◌∷◌, length, Some, Bool, true, false, refl, sym, ap, ◌∙◌, arith}
 use Rattle.std.specs.Prelude.{slice_get, slice_set}
+use Rattle.b67_list.proofs.Lists.{get_within}
+use Rattle.b67_list.proofs.Numbers.{none_some}
 use Rattle.algol_standing.specs.Skeleton.{Stack, Home, Skeleton, IsInSkeleton, NextIn, Owned, SkeletonStands, OnPath, here, down, SkeletonOk}
-use Rattle.algol_standing.proofs.Lists.{none_some, get-small}
-
-pub true_false : {B : Type 0} {x : Bool} → x ≡ true → x ≡ false → B
-true_false e f = cc
 
 pub nil_cons : {A B : Type 0} {x : A} {xs : List A} → [] ≡ x ∷ xs → B
 nil_cons e = cc
@@ -59,4 +57,4 @@ module _ (s : Skeleton) (ok : SkeletonOk s) where
   home_stands a st = in_home st.number st.stack.own a (ok.owned st.number st.stack st.is) st.inside
 
   pub stands_small : (a : ℕ) → SkeletonStands s a → a < length s.homes
-  stands_small a st = get-small s.homes a (home_stands a st).0 (home_stands a st).1
+  stands_small a st = get_within s.homes a (home_stands a st).0 (home_stands a st).1

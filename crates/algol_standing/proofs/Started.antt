@@ -2,6 +2,7 @@
 use Rattle.std.proofs.Common.{◌≡◌, ◌⊎◌, ℕ, suc, ◌+◌, ◌<◌, ◌≤◌, List, [], ◌∷◌, ◌++◌, length, map, Option, Some, true, false, refl, sym, ap, ◌∙◌, subst, arith}
 use Rattle.std.specs.Prelude.{slice_get, slice_set}
 use Rattle.b67_list.specs.Numbered.{numbered}
+use Rattle.b67_list.proofs.Lists.{length_map}
 use Rattle.algol_tree.specs.Blocks.{block_numbered, around}
 use Rattle.algol_tree.specs.Scopes.{Scopes}
 use Rattle.algol_meaning.specs.Value.{Reference, Cell}
@@ -15,12 +16,12 @@ use Rattle.algol_standing.specs.Skeleton.{Evaluation, IsEvaluated, Stack, Skelet
 use Rattle.algol_standing.specs.Worlds.{parent_in, referred_in_cells, home_of, held_in_rest, newest_own, held_by, stack_of, skeleton, IsStanding, IsOnPath, IsWholeInstance, IsSound}
 use Rattle.algol_calls.specs.Texts.{KeepToTexts}
 use Rattle.algol_standing.proofs.Calls.{IsNoEvent}
-use Rattle.algol_standing.proofs.Lists.{get-seam}
+use Rattle.algol_standing.proofs.Lists.{get_seam}
 use Rattle.algol_standing.proofs.Standing.{stands_path}
 use Rattle.algol_standing.proofs.Growth.{stands_up, path_up, start_ok, start_grows}
 use Rattle.algol_standing.proofs.Firsts.{path_first, from_first, evaluations_ok, evaluations_grow}
 use Rattle.algol_standing.proofs.Holding.{AreAll, items_hold}
-use Rattle.algol_standing.proofs.Pairs.{map_length, stack_forth, stack_back}
+use Rattle.algol_standing.proofs.Pairs.{stack_forth, stack_back}
 use Rattle.algol_standing.proofs.Seen.{CellOk, all_refs, in_front, in_either, evaluated_either, top_stands}
 use Rattle.algol_standing.proofs.Stacks.{skeleton_started, numbered_front, numbered_new, numbered_last, numbered_small}
 use Rattle.algol_standing.proofs.Changed.{IsPlain}
@@ -64,13 +65,13 @@ module _ (sc : Scopes) (texts : KeepToTexts sc) (w : World) (ok : IsSound sc IsW
   v = with_started sc w p q part outer (with_new_instance sc w p q part outer j parent (next_process sc w p q part outer) cells) j cells task parent
 
   pub number_is : number ≡ length (skeleton w).homes
-  number_is = let m : length (map home_of w.instances) ≡ length w.instances = map_length home_of w.instances in omega (arith, m)
+  number_is = let m : length (map home_of w.instances) ≡ length w.instances = length_map home_of w.instances in omega (arith, m)
 
   pub number_next : number ≡ suc (length w.instances)
   number_next = omega arith
 
   process_is : next_process sc w p q part outer ≡ length (skeleton w).stacks
-  process_is = let m : length (map stack_of w.processes) ≡ length w.processes = map_length stack_of w.processes in omega (arith, m)
+  process_is = let m : length (map stack_of w.processes) ≡ length w.processes = length_map stack_of w.processes in omega (arith, m)
 
   pub process_next : next_process sc w p q part outer ≡ suc (length w.processes)
   process_next = omega arith
@@ -116,7 +117,7 @@ module _ (sc : Scopes) (texts : KeepToTexts sc) (w : World) (ok : IsSound sc IsW
   s1_ok = start_ok (skeleton w) ok.skeleton_ok critical refs critical_stands refs_on_path
 
   base_at : slice_get s1.stacks (length (skeleton w).stacks) ≡ Some base
-  base_at = get-seam (skeleton w).stacks base []
+  base_at = get_seam (skeleton w).stacks base []
 
   abbrev held : List Evaluation
   held = held_by (inner ∷ [])

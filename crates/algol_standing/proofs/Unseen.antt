@@ -2,6 +2,7 @@
 use Rattle.std.proofs.Common.{◌≡◌, ◌⊎◌, ℕ, zero, suc, ◌||◌, List, [], ◌∷◌, Option, Some, true, false, refl, sym, ap, ◌∙◌, subst, arith}
 use Rattle.std.specs.Prelude.{slice_get}
 use Rattle.b67_list.specs.Numbered.{numbered}
+use Rattle.b67_list.proofs.Numbers.{none_some}
 use Rattle.algol_tree.specs.Scopes.{Scopes}
 use Rattle.algol_meaning.specs.Value.{Reference}
 use Rattle.algol_meaning.specs.World.{Process, lives, World}
@@ -9,7 +10,7 @@ use Rattle.algol_standing.specs.Skeleton.{Stack, Home, Skeleton, IsInSkeleton, N
 use Rattle.algol_standing.specs.Worlds.{newest_own, stack_of, skeleton, IsOnPath, IsWholeInstance}
 use Rattle.algol_standing.specs.Fitting.{IsOk}
 use Rattle.algol_standing.specs.Laws.{NewestIsUnseen}
-use Rattle.algol_standing.proofs.Lists.{none_some, some_same}
+use Rattle.algol_standing.proofs.Lists.{some_same}
 use Rattle.algol_standing.proofs.Standing.{lives as stack_lives, home_stands}
 use Rattle.algol_standing.proofs.Pairs.{stack_forth}
 use Rattle.algol_standing.proofs.Leaving.{free_of}

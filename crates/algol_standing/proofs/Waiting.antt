@@ -2,6 +2,7 @@
 use Rattle.std.proofs.Common.{◌≡◌, ◌⊎◌, ℕ, ◌≤◌, List, [], ◌∷◌, length, Some, true, refl, sym, ap, ◌∙◌, subst}
 use Rattle.b67_limits.specs.declared.TheConstants.{MOST_EVENTS}
 use Rattle.b67_list.specs.Numbered.{numbered, set_numbered}
+use Rattle.b67_list.proofs.Numbered.{numbered_set}
 use Rattle.b67_deeds.specs.Events.{EventState, joined}
 use Rattle.b67_deeds.specs.Listed.{IsListed}
 use Rattle.b67_deeds.proofs.Lists.{listed_either, once_more}
@@ -9,8 +10,7 @@ use Rattle.algol_tree.specs.Scopes.{Scopes}
 use Rattle.algol_meaning.specs.Value.{Reference, event}
 use Rattle.algol_meaning.specs.World.{Part, Process, able, waits_any, lives, or_no_process, process_at, with_process, cell_at, World}
 use Rattle.algol_meaning.specs.Events.{event_at, reference_is_among, joined_all}
-use Rattle.algol_laws.proofs.Cells.{numbered_set}
-use Rattle.algol_laws.proofs.Releasing.{joined_processes}
+use Rattle.algol_meaning.proofs.Cited.{joined_processes}
 use Rattle.algol_standing.specs.Worlds.{newest_own, stack_of, IsStanding, IsOnPath, Awaits, WaitersAreListed, IsWholeInstance, ProcessOk, IsSound}
 use Rattle.algol_standing.proofs.Lists.{some_same}
 use Rattle.algol_standing.proofs.Pairs.{AllPairs, pairs_self, pairs_then_set, stack_forth}

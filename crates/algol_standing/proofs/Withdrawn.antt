@@ -2,20 +2,21 @@
 use Rattle.std.proofs.Common.{◌≡◌, ◌⊎◌, ℕ, ◌≤◌, List, [], ◌∷◌, length, Option, None, Some, Bool, true, false, refl, sym, ap, ◌∙◌, subst, arith}
 use Rattle.std.specs.Prelude.{if◌then◌else◌, ◌==◌, ◌+◌, not, filter}
 use Rattle.b67_list.specs.Numbered.{numbered, set_numbered}
+use Rattle.b67_list.proofs.Numbers.{number_itself, same_number}
+use Rattle.b67_list.proofs.Truths.{false_true}
 use Rattle.b67_limits.specs.declared.TheConstants.{MOST_EVENTS}
 use Rattle.b67_deeds.specs.Events.{EventState, left_by}
 use Rattle.b67_deeds.specs.Listed.{IsListed, AreOnce}
-use Rattle.algol_meaning.specs.Value.{Reference, Cell, event}
-use Rattle.algol_meaning.specs.World.{Process, or_no_process, process_at, cell_at, event_in, World}
+use Rattle.algol_meaning.specs.Value.{Reference, Cell}
+use Rattle.algol_meaning.specs.World.{Process, or_no_process, process_at, event_in, World}
 use Rattle.algol_meaning.specs.Events.{event_at, change_event, same_reference, first_that, reference_is_among, list_in, forgotten, told_number, woken_by, withdrawn, all_withdrawn}
-use Rattle.algol_laws.proofs.Cells.{same_number, itself}
 use Rattle.algol_laws.proofs.Releasing.{forgotten_processes, withdrawn_state}
 use Rattle.algol_standing.specs.Worlds.{WaitersAreListed, IsFew}
 use Rattle.algol_standing.proofs.Pairs.{AllPairs, numbered_forth, pairs_self, pairs_then, pairs_then_set}
 use Rattle.algol_standing.proofs.Alike.{InstanceAlike, instance_self, instance_then}
 use Rattle.algol_standing.proofs.Unmoved.{Unmoved}
 use Rattle.algol_standing.proofs.Changed.{changed_alike}
-use Rattle.algol_standing.proofs.EventCells.{false_true, same_is, same_or_not, not_same, among_first, among_more, cell_apart, event_changes, cell_there}
+use Rattle.algol_standing.proofs.EventCells.{same_is, same_or_not, not_same, among_first, among_more, cell_apart, event_changes}
 
 -- ---- one leaves a list of processes
 
@@ -38,7 +39,7 @@ module _ (k : ℕ) where
     where
       by : (b : Bool) → (k == x) ≡ b → IsListed (if not b then x ∷ leave_list xs else leave_list xs) k → (IsListed (leave_list xs) k → ⊥) → ⊥
       by true e m f = f m
-      by false e (◌⊎◌.inl g) f = false_true (k == x) e (subst (λ y. (k == y) ≡ true) (sym g) (itself k))
+      by false e (◌⊎◌.inl g) f = false_true (k == x) e (subst (λ y. (k == y) ≡ true) (sym g) (number_itself k))
       by false e (◌⊎◌.inr m) f = f m
 
   pub once_left : (xs : List ℕ) → AreOnce xs → AreOnce (leave_list xs)
@@ -60,9 +61,6 @@ module _ (k : ℕ) where
 
   pub left_twice : (e : EventState) → left_by k (left_by k e) ≡ left_by k e
   left_twice e = ap (λ xs. record e { waiters = xs }) (nothing_leaves (leave_list e.waiters) (leaves_it e.waiters))
-
-  pub left_same : (e : EventState) → (IsListed e.waiters k → ⊥) → left_by k e ≡ e
-  left_same e n = ap (λ xs. record e { waiters = xs }) (nothing_leaves e.waiters n)
 
 -- ---- those of some leave who have the event in their lists
 
@@ -140,35 +138,6 @@ module _ (k : ℕ) where
           ap (λ d. if reference_is_among rs s then left_by k d else d) (ap (λ (c : Cell). event_in c) (cell_apart w t s (left_by k (event_at w t)) (not_same t s e)))
           ∙ ap (λ b. if b then left_by k (event_at w s) else event_at w s) (sym (among_more t rs s e))
 
-  -- every other cell is as it was
-  pub forgotten_other : (w : World) (rs : List Reference) (s : Reference) → reference_is_among rs s ≡ false → cell_at (forgotten w k rs) s ≡ cell_at w s
-  forgotten_other w [] s e = refl
-  forgotten_other w (t ∷ rs) s e = by (same_or_not t s) (λ f. forgotten_other (change_event w t (Some (left_by k))) rs s f)
-    where
-      by : (same_reference t s ≡ true) ⊎ (same_reference t s ≡ false) →
-          (reference_is_among rs s ≡ false → cell_at (forgotten (change_event w t (Some (left_by k))) k rs) s ≡ cell_at (change_event w t (Some (left_by k))) s) →
-          cell_at (forgotten w k (t ∷ rs)) s ≡ cell_at w s
-      by (◌⊎◌.inl f) go = absurd (false_true (reference_is_among (t ∷ rs) s) e (among_first t rs s f))
-      by (◌⊎◌.inr f) go = go (sym (among_more t rs s f) ∙ e) ∙ cell_apart w t s (left_by k (event_at w t)) (not_same t s f)
-
-  -- a cell that holds an event still does
-  pub forgotten_there : (w : World) (rs : List Reference) (s : Reference) (d : EventState) → cell_at w s ≡ event d →
-      (e : EventState) × (cell_at (forgotten w k rs) s ≡ event e)
-  forgotten_there w [] s d f = (d, f)
-  forgotten_there w (t ∷ rs) s d f = by (same_or_not t s) (λ e g. forgotten_there (change_event w t (Some (left_by k))) rs s e g)
-    where
-      v : World
-      v = change_event w t (Some (left_by k))
-
-      by : (same_reference t s ≡ true) ⊎ (same_reference t s ≡ false) →
-          ((e : EventState) → cell_at v s ≡ event e → (x : EventState) × (cell_at (forgotten v k rs) s ≡ event x)) →
-          (x : EventState) × (cell_at (forgotten w k (t ∷ rs)) s ≡ event x)
-      by (◌⊎◌.inl e) go =
-          go (left_by k (event_at w t))
-          (subst (λ (u : Reference). cell_at v u ≡ event (left_by k (event_at w t))) (same_is t s e)
-          (cell_there w t d (left_by k (event_at w t)) (ap (λ (u : Reference). cell_at w u) (same_is t s e) ∙ f)))
-      by (◌⊎◌.inr e) go = go d (cell_apart w t s (left_by k (event_at w t)) (not_same t s e) ∙ f)
-
 -- whether a process has the event in its list
 abbrev pub has_in_list : World → Reference → ℕ → Bool
 has_in_list w s k = reference_is_among (list_in (process_at w k).state) s
@@ -180,46 +149,6 @@ withdrawn_event w r s (k ∷ ps) =
     ∙ (thinned_alike (has_in_list (withdrawn w r k) s) (has_in_list w s) ps (event_at (withdrawn w r k) s)
     (λ j. ap (λ t. reference_is_among (list_in t) s) (withdrawn_state w r k j))
     ∙ ap (λ e. thinned (has_in_list w s) ps e) (forgotten_event k w (list_in (process_at w k).state) s))
-
-pub withdrawn_other : (w : World) (r s : Reference) (ps : List ℕ) → ((k : ℕ) → IsListed ps k → has_in_list w s k ≡ false) →
-    cell_at (all_withdrawn w r ps) s ≡ cell_at w s
-withdrawn_other w r s [] f = refl
-withdrawn_other w r s (k ∷ ps) f =
-    withdrawn_other (withdrawn w r k) r s ps (λ j n. ap (λ t. reference_is_among (list_in t) s) (withdrawn_state w r k j) ∙ f j (◌⊎◌.inr n))
-    ∙ forgotten_other k w (list_in (process_at w k).state) s (f k (◌⊎◌.inl refl))
-
-withdrawn_there : (w : World) (r s : Reference) (ps : List ℕ) (d : EventState) → cell_at w s ≡ event d →
-    (e : EventState) × (cell_at (all_withdrawn w r ps) s ≡ event e)
-withdrawn_there w r s [] d f = (d, f)
-withdrawn_there w r s (k ∷ ps) d f =
-    let m = forgotten_there k w (list_in (process_at w k).state) s d f in withdrawn_there (withdrawn w r k) r s ps m.0 m.1
-
--- each of these leaves, one after the other
-abbrev pub all_left : List ℕ → EventState → EventState
-all_left [] e = e
-all_left (k ∷ ps) e = all_left ps (left_by k e)
-
-thinned_left : (leaves : ℕ → Bool) (ps : List ℕ) (e : EventState) → ((k : ℕ) → IsListed ps k → IsListed e.waiters k → leaves k ≡ true) →
-    thinned leaves ps e ≡ all_left ps e
-thinned_left leaves [] e f = refl
-thinned_left leaves (k ∷ ps) e f =
-    ap (λ d. thinned leaves ps d) (by (leaves k) refl)
-    ∙ thinned_left leaves ps (left_by k e) (λ j n m. f j (◌⊎◌.inr n) (stays_listed k e.waiters j m))
-  where
-    by : (b : Bool) → leaves k ≡ b → (if b then left_by k e else e) ≡ left_by k e
-    by true g = refl
-    by false g = sym (left_same k e (λ m. false_true (leaves k) g (f k (◌⊎◌.inl refl) m)))
-
--- where each of them that stands in the event's list has the event in its own
-pub withdrawn_cell : (w : World) (r s : Reference) (ps : List ℕ) (e : EventState) → cell_at w s ≡ event e →
-    ((k : ℕ) → IsListed ps k → IsListed e.waiters k → has_in_list w s k ≡ true) → cell_at (all_withdrawn w r ps) s ≡ event (all_left ps e)
-withdrawn_cell w r s ps e f has =
-    let m = withdrawn_there w r s ps e f in
-    m.1
-    ∙ ap (λ d. event d)
-    (ap (λ (c : Cell). event_in c) (sym m.1)
-    ∙ (withdrawn_event w r s ps
-    ∙ (ap (λ (c : Cell). thinned (has_in_list w s) ps (event_in c)) f ∙ thinned_left (has_in_list w s) ps e has)))
 
 -- ---- instances and processes
 

@@ -7,16 +7,16 @@ use Rattle.algol_cells.specs.declared.cell.Bounds.{Bounds}
 use Rattle.algol_instances.specs.SeenInstance.{named_cell, named_cells}
 use Rattle.algol_instances.specs.declared.instance.NamedCell.{NamedCell}
 
-pub bounds-append : (bs : List Bounds) (b : Bounds) → map seen.bounds (bs ++ b ∷ []) ≡ map seen.bounds bs ++ seen.bounds b ∷ []
-bounds-append [] b = refl
-bounds-append (c ∷ bs) b = ap (λ (x : _). seen.bounds c ∷ x) (bounds-append bs b)
+pub bounds_append : (bs : List Bounds) (b : Bounds) → map seen.bounds (bs ++ b ∷ []) ≡ map seen.bounds bs ++ seen.bounds b ∷ []
+bounds_append [] b = refl
+bounds_append (c ∷ bs) b = ap (λ (x : _). seen.bounds c ∷ x) (bounds_append bs b)
 
-pub named-append : (cs : List NamedCell) (c : NamedCell) → named_cells (cs ++ c ∷ []) ≡ named_cells cs ++ named_cell c ∷ []
-named-append [] c = refl
-named-append (d ∷ cs) c = ap (λ (x : _). named_cell d ∷ x) (named-append cs c)
+pub named_append : (cs : List NamedCell) (c : NamedCell) → named_cells (cs ++ c ∷ []) ≡ named_cells cs ++ named_cell c ∷ []
+named_append [] c = refl
+named_append (d ∷ cs) c = ap (λ (x : _). named_cell d ∷ x) (named_append cs c)
 
-pub same-values : (n : ℕ) (v : Value) → map value (replicate n v) ≡ replicate n (value v)
-same-values zero v = refl
-same-values (suc n) v = ap (λ (x : _). value v ∷ x) (same-values n v)
+pub same_values : (n : ℕ) (v : Value) → map value (replicate n v) ≡ replicate n (value v)
+same_values zero v = refl
+same_values (suc n) v = ap (λ (x : _). value v ∷ x) (same_values n v)
 
-pub ruleset making = (bounds-append, named-append, same-values)
+pub ruleset making = (bounds_append, named_append, same_values)

@@ -2,5 +2,4 @@ pub mod Trees
 pub mod Parameters
 pub mod Cases
 pub mod Elements
-pub mod Walking
 pub mod Waiting

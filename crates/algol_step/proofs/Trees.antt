@@ -1,17 +1,14 @@
 -- The plain trees of actuals.
-use Rattle.std.proofs.Common.{rules, arith, ◌≡◌, refl, suc, true, List, [], ◌∷◌, length, nat_lt}
+use Rattle.std.proofs.Common.{arith, ◌≡◌, refl, suc, true, List, [], ◌∷◌, length, nat_lt}
 use Rattle.std.proofs.lemmas.Bool.Decides.{nat_tests}
 use Rattle.algol_tree.specs.Plain as tree
 use Rattle.algol_tree.specs.declared.tree.Named.{Named}
-use Rattle.algol_tree.specs.declared.tree.Expr.{Expr, the_lemmas}
+use Rattle.algol_tree.specs.declared.tree.Expr.{Expr}
 use Rattle.algol_tree.specs.declared.tree.Expr.TheVariants as shapes
-use Rattle.algol_tree.specs.declared.tree.Variable as variables
 use Rattle.algol_tree.specs.declared.tree.Variable.{Variable}
 use Rattle.algol_meaning.specs.Choice.{is_subscripted}
 use Rattle.algol_meaning.specs.SeenTree.{expr, exprs}
-
-expr_of_variable : (v : Variable) → expr (shapes.Variable v) ≡ tree.variable (tree.subscripted v.name (exprs v.subs))
-expr_of_variable v = search (rules, the_lemmas, variables.the_lemmas)
+use Rattle.algol_rest_expr.proofs.Trees.{expr_of_variable}
 
 with_subscripts : (n : Named) (es : List Expr) → nat_lt 0 (length es) ≡ is_subscripted (tree.variable (tree.subscripted n (exprs es)))
 with_subscripts n [] = refl

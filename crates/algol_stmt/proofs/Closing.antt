@@ -7,10 +7,9 @@ use Rattle.algol_tree.specs.Plain.{PDecl, PDecls}
 use Rattle.algol_tree.specs.Due.{Due, declared}
 use Rattle.algol_tree.specs.DueStmt.{decl_behind}
 use Rattle.algol_tree.specs.Found.{IsRest, TokenPasses, ReaderRefuses}
-use Rattle.algol_expr.proofs.Chain.{Reaches, past}
+use Rattle.algol_expr.proofs.Chain.{Reaches, past, if_err, rest_of}
 use Rattle.algol_part.specs.Brings.{PartAdds, AddsNone}
-use Rattle.algol_part.proofs.Chains.{added, refusing, rest_of, valued}
-use Rattle.algol_part.proofs.Tails.{if_err}
+use Rattle.algol_part.proofs.Chains.{added, refusing, valued}
 
 module _ {T : Type 0} (r : Result T Refusal) where
   pub closes_refused : {from : List Due} {tokens mid : List Token} {s : Due} {d : PDecl} →

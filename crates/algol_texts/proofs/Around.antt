@@ -1,6 +1,6 @@
 -- What is around each place of a program, and what its names mean there: the names that are known there are those of the block of the place
 -- and of the blocks around it, each so many up as its depth says, and all parameters of these blocks are among them.
-use Rattle.std.proofs.Common.{arith, ◌≡◌, ℕ, ℤ, ◌+◌, ◌-◌, ◌<◌, ◌≤◌, Bool, true, false, List, [], ◌∷◌, ◌++◌, map, length, Some, None, refl, sym, ap, ◌∙◌, subst, if◌then◌else◌, suc, zero, slice_get}
+use Rattle.std.proofs.Common.{arith, ◌≡◌, ℕ, ℤ, ◌+◌, ◌-◌, ◌<◌, ◌≤◌, Bool, true, false, List, [], ◌∷◌, ◌++◌, map, length, Some, None, refl, sym, ap, ◌∙◌, subst, if◌then◌else◌, suc, slice_get}
 use Rattle.std.specs.List.{AllByRecursion, Contains}
 use Rattle.algol_tree.specs.declared.token.Spot.{Spot}
 use Rattle.algol_tree.specs.declared.tree.Heading.{Heading}
@@ -14,8 +14,8 @@ use Rattle.algol_tree.specs.Plain.{PDecl, PDecls}
 use Rattle.algol_tree.specs.Sorts as sort
 use Rattle.algol_tree.specs.Sorts.{Sort, is_formal, is_variable, Parameter, same_name, Declared, look_up, declare, is_named_in, sort_in, class_in, parameters_of}
 use Rattle.algol_tree.specs.Surroundings.{Surroundings, announced, declare_procedure, knowing, knowing_all, inside_procedure}
-use Rattle.algol_meaning.proofs.Naming.{same_name-is}
-use Rattle.algol_told.proofs.Lists.{contains-first, contains-later, all-append, all-weaker, false-not-true}
+use Rattle.algol_tree.proofs.Names.{same_name_is}
+use Rattle.algol_told.proofs.Lists.{contains_first, contains_later, all_append, all_weaker, false_not_true}
 use Rattle.algol_calls.specs.Fits.{has_parameter, has_variable, has_simple}
 use Rattle.algol_calls.proofs.Simple.{parameter_simple}
 use Rattle.algol_texts.proofs.Parameters.{HasParameter, more_known, IsGiven, given_value, given_name, given_array, given_event, given, each_named, parameter_known, each_parameter, variable_simple}
@@ -65,8 +65,8 @@ module _ (blocks : List Block) where
 
   wider : (new known : List Declared) (ks : List ℕ) → HaveAll known ks → HaveAll (new ++ known) ks
   wider new known ks h =
-      all-weaker (HasAll known) (HasAll (new ++ known))
-      (λ k g. all-weaker (HasParameter known k) (HasParameter (new ++ known) k) (more_known new known k) (parameters_at blocks k) g) ks h
+      all_weaker (HasAll known) (HasAll (new ++ known))
+      (λ k g. all_weaker (HasParameter known k) (HasParameter (new ++ known) k) (more_known new known k) (parameters_at blocks k) g) ks h
 
   -- ---- after a declaration
 
@@ -79,7 +79,7 @@ module _ (blocks : List Block) where
           chain_is = r.chain_is;
           chain = r.chain;
           deep = r.deep;
-          known = all-append (IsKnown j a.depth) new a.known h r.known;
+          known = all_append (IsKnown j a.depth) new a.known h r.known;
           whole = wider new a.known (j ∷ around blocks j) r.whole;
         }
 
@@ -96,7 +96,7 @@ module _ (blocks : List Block) where
           shallow = omega arith;
           found = ap (slice_get (j ∷ around blocks j)) none_up ∙ ap Some (sym r.block_is);
           means = m;
-          formal = λ e. absurd (false-not-true (sym f ∙ e));
+          formal = λ e. absurd (false_not_true (sym f ∙ e));
           variable = v;
         }
 
@@ -109,7 +109,7 @@ module _ (blocks : List Block) where
     -- what is no variable
     none_here : (a : Surroundings) (s : Sort) (ns : List Named) → is_variable s ≡ false → AllByRecursion (HasCell a s) ns
     none_here a s [] e = tt
-    none_here a s (n ∷ ns) e = (λ h. absurd (false-not-true (sym e ∙ h)), none_here a s ns e)
+    none_here a s (n ∷ ns) e = (λ h. absurd (false_not_true (sym e ∙ h)), none_here a s ns e)
 
     knows : (s : Sort) (c : Class) (ns : List Named) (a : Surroundings) → is_formal s ≡ false → ((n : Named) → Means a.block n.name s c) → AllByRecursion (HasCell a s) ns →
         IsAround j outer a → IsAround j outer (record a { known = declare a.block a.depth s c ns ++ a.known })
@@ -119,7 +119,7 @@ module _ (blocks : List Block) where
     variables_here : (a : Surroundings) → IsAround j outer a → (ns : List Named) → AllByRecursion (λ (n : Named). has_variable (block_numbered blocks j).decls n.name ≡ true) ns →
         AllByRecursion (HasCell a sort.variable) ns
     variables_here a r ns h =
-        all-weaker (λ (n : Named). has_variable (block_numbered blocks j).decls n.name ≡ true) (HasCell a sort.variable)
+        all_weaker (λ (n : Named). has_variable (block_numbered blocks j).decls n.name ≡ true) (HasCell a sort.variable)
         (λ n e g. subst (λ (k : ℕ). has_simple (block_numbered blocks k) n.name ≡ true) (sym r.block_is) (variable_simple (block_numbered blocks j) n.name e)) ns h
 
     -- the procedure with this heading
@@ -127,7 +127,7 @@ module _ (blocks : List Block) where
     knows_procedure h a c r =
         let its = subst (λ (k : ℕ). IsCallee blocks k h) (sym r.block_is) c in
         knows_more a (declare_procedure blocks h a) r
-        (one_here a r (sort.procedure (number_at blocks h.name.spot)) (class.procedure h) h.name refl (a_procedure h its refl) (λ e. absurd (false-not-true e)), tt)
+        (one_here a r (sort.procedure (number_at blocks h.name.spot)) (class.procedure h) h.name refl (a_procedure h its refl) (λ e. absurd (false_not_true e)), tt)
 
     -- the place after a declaration, the later ones being these
     pub knows_one : (d : PDecl) (ds : PDecls) (a : Surroundings) → DeclaresCallee blocks j d ds → IsAround j outer a → IsAround j outer (knowing blocks d ds a)
@@ -172,7 +172,7 @@ module _ (blocks : List Block) where
           chain_is = ap (λ z. k ∷ z) (sym e);
           chain = subst (IsChain blocks) (sym above) (refl, r.chain);
           deep = omega (arith, ap length above, r.deep);
-          known = all-append (IsKnown k (a.depth + 1)) new a.known fresh (all-weaker (IsKnown j a.depth) (IsKnown k (a.depth + 1)) (λ d h. deeper k a d above h) a.known r.known);
+          known = all_append (IsKnown k (a.depth + 1)) new a.known fresh (all_weaker (IsKnown j a.depth) (IsKnown k (a.depth + 1)) (λ d h. deeper k a d above h) a.known r.known);
           whole = (all, subst (HaveAll (new ++ a.known)) (sym above) (wider new a.known (j ∷ around blocks j) r.whole));
         }
 
@@ -227,10 +227,5 @@ found_there (e ∷ known) name d g = by (same_name e.name name) refl (found_ther
     by : (b : Bool) → same_name e.name name ≡ b → (look_up known name ≡ Some d → IsFound known name d) → (if b then Some e else look_up known name) ≡ Some d → IsFound (e ∷ known) name d
     by true t later f =
         let same : e ≡ d = cc in
-        subst (λ (x : Declared). IsFound (e ∷ known) name x) same (record { there = contains-first e known; named = same_name-is e.name name t })
-    by false t later f = let its = later f in record { there = contains-later e known d its.there; named = its.named }
-
-pub each_at : {X : Type 0} (P : X → Type 0) (xs : List X) (i : ℕ) (x : X) → AllByRecursion P xs → slice_get xs i ≡ Some x → P x
-each_at P [] i x h e = absurd (let clash : None ≡ Some x = e in cc)
-each_at P (y ∷ xs) zero x h e = let same : y ≡ x = cc in subst P same h.0
-each_at P (y ∷ xs) (suc i) x h e = each_at P xs i x h.1 e
+        subst (λ (x : Declared). IsFound (e ∷ known) name x) same (record { there = contains_first e known; named = same_name_is e.name name t })
+    by false t later f = let its = later f in record { there = contains_later e known d its.there; named = its.named }

@@ -18,9 +18,11 @@ use Rattle.algol_tree.specs.Sites as site
 use Rattle.algol_tree.specs.Sites.{Site, inside_decl, sites_in_decls}
 use Rattle.algol_tree.specs.Sorts.{same_name, Declared, Parameter, class_in, parameters_of}
 use Rattle.algol_tree.specs.Surroundings.{Surroundings, declared_as, body_of, heading_or, announced, knowing}
-use Rattle.algol_told.proofs.Lists.{none-left, none-right, none-of, all-left, all-right, all-weaker, false-not-true}
+use Rattle.algol_tree.proofs.Spots.{not_so}
+use Rattle.algol_told.proofs.Lists.{none_of, all_left, all_right, all_weaker, false_not_true}
 use Rattle.algol_calls.specs.Fits.{has_parameter, has_variable}
-use Rattle.algol_texts.proofs.Parameters.{not_so, result_clear, own_variables, later_variable}
+use Rattle.b67_list.proofs.Lists.{append_none_left, append_none_right}
+use Rattle.algol_texts.proofs.Parameters.{result_clear, own_variables, later_variable}
 use Rattle.algol_texts.proofs.Good.{IsGood, AreGood, nothing}
 
 -- the block of a BEGIN
@@ -100,7 +102,7 @@ module _ (blocks : List Block) where
     pub found : slice_get ks (length ks - 1 - length (around blocks k)) ≡ Some k
 
   pub chain_at : (k : ℕ) (ks : List ℕ) → IsChain ks → is_among k ks ≡ true → IsPlacedIn k ks
-  chain_at k [] c e = absurd (false-not-true e)
+  chain_at k [] c e = absurd (false_not_true e)
   chain_at k (m ∷ ms) c e = by (m == k) refl (chain_at k ms c.1) e
     where
       same : (m == k) ≡ true → m ≡ k
@@ -120,8 +122,8 @@ module _ (blocks : List Block) where
 
 each_specified : (h : Heading) (ns : List Named) → flat_map (λ (n : Named). if_so (is_unspecified (class_in h.specs n.name)) n.spot) ns ≡ [] → AreSpecified h ns
 each_specified h ns e =
-    all-weaker (λ (n : Named). if_so (is_unspecified (class_in h.specs n.name)) n.spot ≡ []) (λ (n : Named). is_unspecified (class_in h.specs n.name) ≡ false)
-    (λ n k. not_so (is_unspecified (class_in h.specs n.name)) n.spot k) ns (none-of (λ (n : Named). if_so (is_unspecified (class_in h.specs n.name)) n.spot) ns e)
+    all_weaker (λ (n : Named). if_so (is_unspecified (class_in h.specs n.name)) n.spot ≡ []) (λ (n : Named). is_unspecified (class_in h.specs n.name) ≡ false)
+    (λ n k. not_so (is_unspecified (class_in h.specs n.name)) n.spot k) ns (none_of (λ (n : Named). if_so (is_unspecified (class_in h.specs n.name)) n.spot) ns e)
 
 module _ (sc : Scopes) (j : ℕ) (outer : List Spot) (stands : map (number_at sc.blocks) outer ≡ j ∷ around sc.blocks j) where
   numbered_callee : (h : Heading) (t : PStmt) (ds : PDecls) (a : Surroundings) → IsFine sc.blocks (procedure_block h t outer) →
@@ -132,8 +134,8 @@ module _ (sc : Scopes) (j : ℕ) (outer : List Spot) (stands : map (number_at sc
         some = f.there;
         around_is = ap (λ (z : Block). map (number_at sc.blocks) z.outer) f.it_is ∙ stands;
         parameters_are = ap (λ (z : Block). z.parameters) f.it_is;
-        specified = each_specified h h.params (none-left (flat_map (λ (n : Named). if_so (is_unspecified (class_in h.specs n.name)) n.spot) h.params) _ g.right);
-        clear = result_clear h (none-right before (twice_in_heading h) g.clear);
+        specified = each_specified h h.params (append_none_left (flat_map (λ (n : Named). if_so (is_unspecified (class_in h.specs n.name)) n.spot) h.params) _ g.right);
+        clear = result_clear h (append_none_right before (twice_in_heading h) g.clear);
         result_is = ap (λ (z : Block). z.result) f.it_is;
         name_is = ap (λ (z : Block). z.name) f.it_is;
       }
@@ -145,10 +147,10 @@ module _ (sc : Scopes) (j : ℕ) (outer : List Spot) (stands : map (number_at sc
   one_callee : (d : PDecl) (ds : PDecls) (a : Surroundings) → AreOwn (tree.decls d ds) → AreCallees sc.blocks j ds → AreFine sc.blocks (blocks_in_decl d outer) →
       IsGood sc (record { part = site.declaration d ds; around = a }) → DeclaresCallee sc.blocks j d ds
   one_callee (tree.simple kind ns) ds a own later f g =
-      all-weaker (λ (n : Named). has_variable (tree.decls (tree.simple kind ns) ds) n.name ≡ true) (λ (n : Named). has_variable (block_numbered sc.blocks j).decls n.name ≡ true)
+      all_weaker (λ (n : Named). has_variable (tree.decls (tree.simple kind ns) ds) n.name ≡ true) (λ (n : Named). has_variable (block_numbered sc.blocks j).decls n.name ≡ true)
       (λ n e. own n.name e) ns (own_variables kind ns ds)
   one_callee (tree.forward h) ds a own later f g =
-      announced_callee sc.blocks j h ds (body_of h.name.name ds) later refl (none-left (if_so (not (is_some (body_of h.name.name ds))) h.name.spot) (unknown_in_heading h) g.known)
+      announced_callee sc.blocks j h ds (body_of h.name.name ds) later refl (append_none_left (if_so (not (is_some (body_of h.name.name ds))) h.name.spot) (unknown_in_heading h) g.known)
   one_callee (tree.procedure h t) ds a own later f g = numbered_callee h t ds a f.0 g
   one_callee d ds a own later f g = tt
 
@@ -159,6 +161,6 @@ module _ (sc : Scopes) (j : ℕ) (outer : List Spot) (stands : map (number_at sc
   are_callees (tree.decls d ds) a first own f g =
       let b : Surroundings = knowing sc.blocks d ds a in
       let later =
-      are_callees ds b first (λ name e. own name (later_variable d ds name e)) (all-right (IsFine sc.blocks) (blocks_in_decl d outer) (blocks_in_decls ds outer) f)
-      (all-right (IsGood sc) (inside_decl sc.blocks d b first) (sites_in_decls sc.blocks ds b first) g.1) in
-      (one_callee d ds a own later (all-left (IsFine sc.blocks) (blocks_in_decl d outer) (blocks_in_decls ds outer) f) g.0, later)
+      are_callees ds b first (λ name e. own name (later_variable d ds name e)) (all_right (IsFine sc.blocks) (blocks_in_decl d outer) (blocks_in_decls ds outer) f)
+      (all_right (IsGood sc) (inside_decl sc.blocks d b first) (sites_in_decls sc.blocks ds b first) g.1) in
+      (one_callee d ds a own later (all_left (IsFine sc.blocks) (blocks_in_decl d outer) (blocks_in_decls ds outer) f) g.0, later)

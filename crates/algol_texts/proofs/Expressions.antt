@@ -23,6 +23,7 @@ use Rattle.algol_tree.specs.Sites.{Site, sites, first_formal, other_formals, act
 use Rattle.algol_tree.specs.Sorts.{Sort, procedure_in, is_named_in, sort_in, class_in}
 use Rattle.algol_tree.specs.Surroundings.{Surroundings, class_of, formals_of_class, formals_at}
 use Rattle.algol_tree.specs.Types.{read_type}
+use Rattle.algol_tree.proofs.Spots.{not_so}
 use Rattle.algol_meaning.specs.Settle.{sorts_of, sort_at}
 use Rattle.algol_paths.specs.Blocks.{BlockIsSeen}
 use Rattle.algol_paths.specs.Texts.{InExpr, InExprs}
@@ -30,32 +31,28 @@ use Rattle.algol_calls.specs.Fits as fits
 use Rattle.algol_calls.specs.Fits.{sorts_wanted, AloneFits, IsNameOfIt, ParameterStandsFor, CalledExprFits, ExprsFit, ActualsFit}
 use Rattle.algol_front_laws.specs.Declarations.{EachOnce}
 use Rattle.algol_front_laws.specs.Uses.{use_by_name}
-use Rattle.algol_told.proofs.Lists.{none-left, none-right, all-left, all-right, all-weaker, false-not-true}
-use Rattle.algol_texts.proofs.Parameters.{not_so, IsGiven, given_value, given_name, given_array, given_event, given, parameter}
-use Rattle.algol_texts.proofs.Good.{IsUsed, IsGood, AreGood, actual_used, value_good, nothing, first_so}
+use Rattle.algol_told.proofs.Lists.{all_left, all_right, all_weaker, false_not_true}
+use Rattle.b67_list.proofs.Lists.{append_none_left, append_none_right, empty_if_none}
+use Rattle.b67_list.proofs.Numbers.{same_number}
+use Rattle.b67_list.proofs.Truths.{and_first}
+use Rattle.algol_texts.proofs.Parameters.{IsGiven, given_value, given_name, given_array, given_event, given, parameter}
+use Rattle.algol_texts.proofs.Good.{IsUsed, IsGood, AreGood, actual_used, value_good, nothing}
 use Rattle.algol_texts.proofs.Callees.{AreSpecified}
 use Rattle.algol_texts.proofs.Around.{IsKnown, IsAround}
 use Rattle.algol_texts.proofs.Uses.{IsOther, array_other, event_other, task_other, read_is, simple_left, its_known, its_class, name_right, seen, leads, name_of_it, alone_told, calls}
 
 -- ---- numbers
 
-same_number : (m n : ℕ) → (m == n) ≡ true → m ≡ n
-same_number m n h = grind (arith, nat_tests)
-
 pub counted_as : (m n : ℕ) → not (m == n) ≡ false → m ≡ n
 counted_as m n h = by (m == n) refl h
   where
     by : (b : Bool) → (m == n) ≡ b → not b ≡ false → m ≡ n
     by true e f = same_number m n e
-    by false e f = absurd (false-not-true (sym f))
-
-none_counted : {X : Type 0} (xs : List X) → length xs ≡ 0 → xs ≡ []
-none_counted [] e = refl
-none_counted (x ∷ xs) e = absurd (omega (arith, e))
+    by false e f = absurd (false_not_true (sym f))
 
 second_not : (b c : Bool) (spot : Spot) → b ≡ true → if_so (b && c) spot ≡ [] → c ≡ false
 second_not true c spot e h = not_so c spot h
-second_not false c spot e h = absurd (false-not-true e)
+second_not false c spot e h = absurd (false_not_true e)
 
 -- ---- arrays of which a parameter can be one
 
@@ -99,34 +96,34 @@ module _ (sc : Scopes) (j : ℕ) (outer : List Spot) (a : Surroundings) (r : IsA
       expr_known (tree.truth z spot) u g = tt
       expr_known (tree.variable (tree.subscripted n es)) u g = (known n u.0, list_known es g)
       expr_known (tree.call (tree.called n es)) u g = (known n u.0, actuals_known es (formals_at a n) g)
-      expr_known (tree.tested test es spot) u g = all-weaker (IsUsed sc a) P known (map (λ (e : EventName). e.name) es) u
+      expr_known (tree.tested test es spot) u g = all_weaker (IsUsed sc a) P known (map (λ (e : EventName). e.name) es) u
       expr_known (tree.paren e spot) u g = expr_known e g.0.uses g.1
       expr_known (tree.plus e spot) u g = expr_known e g.0.uses g.1
       expr_known (tree.neg e spot) u g = expr_known e g.0.uses g.1
       expr_known (tree.not e spot) u g = expr_known e g.0.uses g.1
       expr_known (tree.two op x y) u g =
-          let first = all-left (IsGood sc) (sites x a) (sites y a) g in
-          let second = all-right (IsGood sc) (sites x a) (sites y a) g in
+          let first = all_left (IsGood sc) (sites x a) (sites y a) g in
+          let second = all_right (IsGood sc) (sites x a) (sites y a) g in
           (expr_known x first.0.uses first.1, expr_known y second.0.uses second.1)
       expr_known (tree.if c x y spot) u g =
-          let front = all-left (IsGood sc) (sites c a ++ sites x a) (sites y a) g in
-          let condition = all-left (IsGood sc) (sites c a) (sites x a) front in
-          let first = all-right (IsGood sc) (sites c a) (sites x a) front in
-          let second = all-right (IsGood sc) (sites c a ++ sites x a) (sites y a) g in
+          let front = all_left (IsGood sc) (sites c a ++ sites x a) (sites y a) g in
+          let condition = all_left (IsGood sc) (sites c a) (sites x a) front in
+          let first = all_right (IsGood sc) (sites c a) (sites x a) front in
+          let second = all_right (IsGood sc) (sites c a ++ sites x a) (sites y a) g in
           (expr_known c condition.0.uses condition.1, expr_known x first.0.uses first.1, expr_known y second.0.uses second.1)
 
       pub list_known : (es : PExprs) → AreGood sc (inside_list es a) → InExprs P es
       list_known tree.none g = tt
       list_known (tree.more e es) g =
-          let first = all-left (IsGood sc) (sites e a) (inside_list es a) g in
-          (expr_known e first.0.uses first.1, list_known es (all-right (IsGood sc) (sites e a) (inside_list es a) g))
+          let first = all_left (IsGood sc) (sites e a) (inside_list es a) g in
+          (expr_known e first.0.uses first.1, list_known es (all_right (IsGood sc) (sites e a) (inside_list es a) g))
 
       pub actuals_known : (es : PExprs) (fs : List Formal) → AreGood sc (inside_actuals es fs a) → InExprs P es
       actuals_known tree.none fs g = tt
       actuals_known (tree.more e es) fs g =
           let later = inside_actuals es (other_formals fs) a in (
-            expr_known e (actual_used sc a e (first_formal fs) g.1.0) (all-left (IsGood sc) (inside_expr e a) later g.1.1),
-            actuals_known es (other_formals fs) (all-right (IsGood sc) (inside_expr e a) later g.1.1),
+            expr_known e (actual_used sc a e (first_formal fs) g.1.0) (all_left (IsGood sc) (inside_expr e a) later g.1.1),
+            actuals_known es (other_formals fs) (all_right (IsGood sc) (inside_expr e a) later g.1.1),
           )
 
     pub sites_known : (e : PExpr) → AreGood sc (sites e a) → InExpr P e
@@ -158,7 +155,7 @@ module _ (sc : Scopes) (j : ℕ) (outer : List Spot) (a : Surroundings) (r : IsA
         flat_map (λ (e : EventName). if e.task then wrong_by is_task e.name else wrong_by is_event e.name) es ≡ [] → AllByRecursion (fits.NameLeads sc) (map (λ (e : EventName). e.name) es)
     events_in [] u h = tt
     events_in (e ∷ es) u h =
-        (event_in e u.0 (none-left (if e.task then wrong_by is_task e.name else wrong_by is_event e.name) _ h), events_in es u.1 (none-right (if e.task then wrong_by is_task e.name else wrong_by is_event e.name) _ h))
+        (event_in e u.0 (append_none_left (if e.task then wrong_by is_task e.name else wrong_by is_event e.name) _ h), events_in es u.1 (append_none_right (if e.task then wrong_by is_task e.name else wrong_by is_event e.name) _ h))
 
     -- a name by itself that is read is a variable, or a call without actuals
     alone_fits : (n : Named) → IsUsed sc a n → wrong_by (λ (c : Class). is_some (read_type c)) n ≡ [] →
@@ -177,7 +174,7 @@ module _ (sc : Scopes) (j : ℕ) (outer : List Spot) (a : Surroundings) (r : IsA
         by t (inr e) =
             let c = calls sc j outer a r once n u e in
             let typed : is_some c.heading.kind ≡ true = ap (λ (z : Class). is_some (read_type z)) (sym c.class_is ∙ its_class sc j outer a r (use_by_name a n) n u) ∙ t in
-            let none = none_counted c.heading.params (bare c.heading c.class_is typed) in
+            let none = empty_if_none c.heading.params (bare c.heading c.class_is typed) in
             subst (λ (o : Option ℕ). AloneFits sc o n) (sym c.called)
             (c.callee, c.wanted_are ∙ ap (λ (ns : List Named). sorts_of (map (parameter c.heading) ns)) none)
 
@@ -228,8 +225,8 @@ module _ (sc : Scopes) (j : ℕ) (outer : List Spot) (a : Surroundings) (r : IsA
     -- `fits_too`: the expression fits where its part of the tree is good
     actual_fits : (e : PExpr) (s : Sort) (c : Class) (v : Bool) → IsGiven s c → IsGood sc (actual_site e c v) → IsGood sc (part_site e c v) → AreGood sc (inside_expr e a) →
         (AreGood sc (sites e a) → CalledExprFits sc e) → ParameterStandsFor sc s e × CalledExprFits sc e
-    actual_fits e s c v (given_value kind) g i more fits_too = (λ formal. absurd (false-not-true formal), fits_too (value_good sc a e kind v i, more))
-    actual_fits e s c v (given_name kind) g i more fits_too = (λ formal named. absurd (false-not-true (sym named)), fits_too (value_good sc a e kind v i, more))
+    actual_fits e s c v (given_value kind) g i more fits_too = (λ formal. absurd (false_not_true formal), fits_too (value_good sc a e kind v i, more))
+    actual_fits e s c v (given_name kind) g i more fits_too = (λ formal named. absurd (false_not_true (sym named)), fits_too (value_good sc a e kind v i, more))
     actual_fits e s c v (given_array lows kind) g i more fits_too = let its = array_fits e kind (length lows) v g i in (λ formal named. its.0, its.1)
     actual_fits e s c v given_event g i more fits_too = let its = event_fits e v g i in (λ formal named. its.0, its.1)
 
@@ -245,14 +242,14 @@ module _ (sc : Scopes) (j : ℕ) (outer : List Spot) (a : Surroundings) (r : IsA
           let its : if_so (is_some h.kind && not (length h.params == 0)) n.spot ≡ [] = rw c at g.0.counted in
           counted_as (length h.params) 0 (second_not (is_some h.kind) (not (length h.params == 0)) n.spot typed its))
       expr_fits (tree.variable (tree.subscripted n (tree.more e es))) g = (
-        array_leads n g.0.uses.0 (none-left (wrong_by is_array n) _ g.0.right),
-        expr_fits e (all-left (IsGood sc) (sites e a) (inside_list es a) g.1),
-        list_fits es (all-right (IsGood sc) (sites e a) (inside_list es a) g.1),
+        array_leads n g.0.uses.0 (append_none_left (wrong_by is_array n) _ g.0.right),
+        expr_fits e (all_left (IsGood sc) (sites e a) (inside_list es a) g.1),
+        list_fits es (all_right (IsGood sc) (sites e a) (inside_list es a) g.1),
       )
       expr_fits (tree.call (tree.called n es)) g =
           let u = g.0.uses.0 in
           let function = name_right sc j outer a r (use_by_name a n) n u is_function g.0.right in
-          call_by n es u (first_so (is_procedure u.declared.class) (is_some (read_type u.declared.class)) function)
+          call_by n es u (and_first (is_procedure u.declared.class) (is_some (read_type u.declared.class)) function)
           (λ h c.
           let its : if_so (not (length h.params == exprs_count es)) n.spot ≡ [] = rw c at g.0.counted in
           counted_as (length h.params) (exprs_count es) (not_so (not (length h.params == exprs_count es)) n.spot its))
@@ -263,18 +260,18 @@ module _ (sc : Scopes) (j : ℕ) (outer : List Spot) (a : Surroundings) (r : IsA
       expr_fits (tree.neg e spot) g = expr_fits e g.1
       expr_fits (tree.not e spot) g = expr_fits e g.1
       expr_fits (tree.two op x y) g =
-          (expr_fits x (all-left (IsGood sc) (sites x a) (sites y a) g.1), expr_fits y (all-right (IsGood sc) (sites x a) (sites y a) g.1))
+          (expr_fits x (all_left (IsGood sc) (sites x a) (sites y a) g.1), expr_fits y (all_right (IsGood sc) (sites x a) (sites y a) g.1))
       expr_fits (tree.if c x y spot) g =
-          let front = all-left (IsGood sc) (sites c a ++ sites x a) (sites y a) g.1 in (
-            expr_fits c (all-left (IsGood sc) (sites c a) (sites x a) front),
-            expr_fits x (all-right (IsGood sc) (sites c a) (sites x a) front),
-            expr_fits y (all-right (IsGood sc) (sites c a ++ sites x a) (sites y a) g.1),
+          let front = all_left (IsGood sc) (sites c a ++ sites x a) (sites y a) g.1 in (
+            expr_fits c (all_left (IsGood sc) (sites c a) (sites x a) front),
+            expr_fits x (all_right (IsGood sc) (sites c a) (sites x a) front),
+            expr_fits y (all_right (IsGood sc) (sites c a ++ sites x a) (sites y a) g.1),
           )
 
       pub list_fits : (es : PExprs) → AreGood sc (inside_list es a) → ExprsFit sc es
       list_fits tree.none g = tt
       list_fits (tree.more e es) g =
-          (expr_fits e (all-left (IsGood sc) (sites e a) (inside_list es a) g), list_fits es (all-right (IsGood sc) (sites e a) (inside_list es a) g))
+          (expr_fits e (all_left (IsGood sc) (sites e a) (inside_list es a) g), list_fits es (all_right (IsGood sc) (sites e a) (inside_list es a) g))
 
       actuals_fit : (es : PExprs) (ns : List Named) (h : Heading) → length ns ≡ exprs_count es → AreSpecified h ns → AreGood sc (inside_actuals es (map (formal h) ns) a) →
           ActualsFit sc es (sorts_of (map (parameter h) ns))
@@ -284,8 +281,8 @@ module _ (sc : Scopes) (j : ℕ) (outer : List Spot) (a : Surroundings) (r : IsA
       actuals_fit (tree.more e es) (n ∷ ns) h c s g =
           let by_value = is_named_in h.values n.name in
           let later = inside_actuals es (map (formal h) ns) a in
-          let its = actual_fits e (sort_in h.specs by_value n.name) (class_in h.specs n.name) by_value (given h.specs by_value n.name s.0) g.0 g.1.0 (all-left (IsGood sc) (inside_expr e a) later g.1.1) (λ i. expr_fits e i) in
-          (its.0, its.1, actuals_fit es ns h (omega (arith, c)) s.1 (all-right (IsGood sc) (inside_expr e a) later g.1.1))
+          let its = actual_fits e (sort_in h.specs by_value n.name) (class_in h.specs n.name) by_value (given h.specs by_value n.name s.0) g.0 g.1.0 (all_left (IsGood sc) (inside_expr e a) later g.1.1) (λ i. expr_fits e i) in
+          (its.0, its.1, actuals_fit es ns h (omega (arith, c)) s.1 (all_right (IsGood sc) (inside_expr e a) later g.1.1))
 
     -- .. and a call by itself
     pub call_fits : (n : Named) (es : PExprs) (u : IsUsed sc a n) → is_procedure u.declared.class ≡ true →

@@ -11,13 +11,13 @@ use Rattle.algol_tree.specs.Counted.{wrong_counts}
 use Rattle.algol_tree.specs.Names.{if_so, unknown_names, declared_twice}
 use Rattle.algol_tree.specs.Plain as tree
 use Rattle.algol_tree.specs.Plain.{PExpr}
-use Rattle.algol_tree.specs.Scopes.{Scopes, Use, names_in, names_in_expr, declared_in, use_of}
+use Rattle.algol_tree.specs.Scopes.{Scopes, Use, names_in, names_in_expr, declared_in}
 use Rattle.algol_tree.specs.Sites.{Site, here, wants_value, name_part, actual_part}
 use Rattle.algol_tree.specs.Sorts.{Declared}
 use Rattle.algol_tree.specs.Surroundings.{Surroundings, declared_as}
 use Rattle.algol_front_laws.specs.Declarations.{EachOnce}
 use Rattle.algol_front_laws.specs.Uses.{use_by_name, use_in}
-use Rattle.algol_told.proofs.Lists.{false-not-true}
+use Rattle.algol_told.proofs.Lists.{false_not_true}
 
 module _ (sc : Scopes) where
   -- The name has a declaration at its place, and this use of it is looked up.
@@ -59,21 +59,13 @@ module _ (sc : Scopes) where
     value_good (tree.variable (tree.subscripted n tree.none)) kind v g = g
     value_good e kind v g = g
 
--- what a name is used as
-pub use_is : (sc : Scopes) (n : Named) (u : Use) → declared_in sc.uses n.spot ≡ Some u → use_of sc n ≡ u
-use_is sc n u h = rw h refl
-
 -- ---- tests that say yes
 
 pub nothing : (spot : Spot) (spots : List Spot) → spot ∷ spots ≡ [] → ⊥
 nothing spot spots h = cc
 
-pub first_so : (b c : Bool) → (b && c) ≡ true → b ≡ true
-first_so true c h = refl
-first_so false c h = h
-
 -- a test of a class that is known
 pub test_holds : (b unspecified : Bool) (spot : Spot) → unspecified ≡ false → if_so (not b && not unspecified) spot ≡ [] → b ≡ true
 test_holds true u spot e h = refl
-test_holds false true spot e h = absurd (false-not-true (sym e))
+test_holds false true spot e h = absurd (false_not_true (sym e))
 test_holds false false spot e h = absurd (nothing spot [] h)

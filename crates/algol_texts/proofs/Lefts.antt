@@ -14,14 +14,17 @@ use Rattle.algol_tree.specs.Sites.{Site, here_stmt}
 use Rattle.algol_tree.specs.Sorts as sort
 use Rattle.algol_tree.specs.Sorts.{Sort, is_formal, is_by_name, procedure_in, Parameter, Declared, parameters_of}
 use Rattle.algol_tree.specs.Surroundings.{Surroundings, class_of}
+use Rattle.algol_tree.proofs.Spots.{not_so}
+use Rattle.algol_tree.proofs.Trees.{use_is}
 use Rattle.algol_meaning.specs.Settle.{sort_at}
 use Rattle.algol_paths.specs.Blocks.{BlockIsSeen}
 use Rattle.algol_calls.specs.Fits.{parameter_sort, has_parameter, has_simple, LeftFits, ControlFits, NameLeads, IsSettled}
 use Rattle.algol_front_laws.specs.Declarations.{EachOnce}
 use Rattle.algol_front_laws.specs.Uses.{use_by_name}
-use Rattle.algol_told.proofs.Lists.{none-left, false-not-true}
-use Rattle.algol_texts.proofs.Parameters.{not_so, is_same, no_parameter, result_simple}
-use Rattle.algol_texts.proofs.Good.{IsUse, IsUsed, IsGood, use_is, nothing}
+use Rattle.algol_told.proofs.Lists.{false_not_true}
+use Rattle.b67_list.proofs.Lists.{append_none_left}
+use Rattle.algol_texts.proofs.Parameters.{is_same, no_parameter, result_simple}
+use Rattle.algol_texts.proofs.Good.{IsUse, IsUsed, IsGood, nothing}
 use Rattle.algol_texts.proofs.Callees.{parameters_at, IsCallee, is_among, chain_at}
 use Rattle.algol_texts.proofs.Around.{Means, a_variable, a_name, a_procedure, IsKnown, IsAround}
 use Rattle.algol_texts.proofs.Uses.{array_other, task_other, simple_left, told_as, seen_as, its_found, its_known, its_class, name_right, seen, leads, alone_told, settled, left_alone}
@@ -29,8 +32,8 @@ use Rattle.algol_texts.proofs.Expressions.{wrong_by}
 
 both_so : (b c : Bool) → not (b && c) ≡ false → (b ≡ true) × (c ≡ true)
 both_so true true h = (refl, refl)
-both_so true false h = absurd (false-not-true (sym h))
-both_so false c h = absurd (false-not-true (sym h))
+both_so true false h = absurd (false_not_true (sym h))
+both_so false c h = absurd (false_not_true (sym h))
 
 -- what is no procedure is the same on the left
 left_same : (v : Use) (s : Sort) → procedure_in s ≡ None → left_use v s ≡ v
@@ -121,8 +124,8 @@ module _ (sc : Scopes) (j : ℕ) (outer : List Spot) (a : Surroundings) (r : IsA
   left_element n x xs e listed g =
       let u : IsUse sc (as_left n) a n = g.uses.0 in
       let k = its_known sc j outer a r (as_left n) n u in
-      let names = none-left _ _ g.right in
-      let array = name_right sc j outer a r (as_left n) n u is_array (none-left (wrong_by sc j outer a r is_array n) _ names) in
+      let names = append_none_left _ _ g.right in
+      let array = name_right sc j outer a r (as_left n) n u is_array (append_none_left (wrong_by sc j outer a r is_array n) _ names) in
       let other = array_other sc.blocks u.declared.block u.declared.name u.declared.sort u.declared.class k.means array in
       let v = as_plain n u other.0 in
       (seen sc j outer a r once n v, leads sc j outer a r once n v other)

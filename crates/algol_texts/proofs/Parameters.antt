@@ -2,7 +2,6 @@
 use Rattle.std.proofs.Common.{◌≡◌, ℕ, ℤ, Bool, true, false, List, [], ◌∷◌, ◌++◌, map, length, is_some, Option, Some, None, refl, sym, ap, ◌∙◌, subst, if◌then◌else◌}
 use Rattle.std.proofs.lemmas.List.Elements.{Contains-append_right}
 use Rattle.std.specs.List.{AllByRecursion, Contains}
-use Rattle.algol_tree.specs.declared.token.Spot.{Spot}
 use Rattle.algol_tree.specs.declared.tree.Heading.{Heading}
 use Rattle.algol_tree.specs.declared.tree.Kind.{Kind}
 use Rattle.algol_tree.specs.declared.tree.Named.{Named}
@@ -16,17 +15,14 @@ use Rattle.algol_tree.specs.Plain.{PDecl, PDecls}
 use Rattle.algol_tree.specs.Names.{if_so, name_is_one_of, repeated, result_names, specified, twice_in_heading}
 use Rattle.algol_tree.specs.Sorts as sort
 use Rattle.algol_tree.specs.Sorts.{Sort, is_formal, is_by_name, Declared, Parameter, same_name, is_named_in, sort_by, sort_in, class_by, class_in, specified_by, parameters_of}
-use Rattle.algol_meaning.proofs.Naming.{same_name-is, same_name-itself}
+use Rattle.algol_tree.proofs.Names.{same_name_is, same_name_itself}
+use Rattle.algol_tree.proofs.Spots.{not_so}
 use Rattle.algol_calls.specs.Fits.{parameter_sort, has_parameter, has_result, has_variable, has_simple}
-use Rattle.algol_told.proofs.Lists.{none-left, none-right, contains-first, all-weaker, false-not-true}
-
-pub not_so : (b : Bool) (spot : Spot) → if_so b spot ≡ [] → b ≡ false
-not_so false spot h = refl
-not_so true spot h = absurd (let clash : spot ∷ [] ≡ [] = h in cc)
-
-pub either_so : (b c : Bool) → c ≡ true → (if b then true else c) ≡ true
-either_so true c h = refl
-either_so false c h = h
+use Rattle.algol_calls.proofs.Simple.{by_first}
+use Rattle.algol_told.proofs.Lists.{contains_first, all_weaker, false_not_true}
+use Rattle.algol_told.proofs.Parameters.{each_is_named}
+use Rattle.b67_list.proofs.Lists.{append_none_left, append_none_right}
+use Rattle.b67_list.proofs.Truths.{either_so}
 
 -- ---- sorts by names
 
@@ -48,7 +44,7 @@ no_parameter (p ∷ ps) name e = by (same_name p.name name) (no_parameter ps nam
   where
     by : (b : Bool) → (has_parameter ps name ≡ false → parameter_sort ps name ≡ sort.variable) → (if b then true else has_parameter ps name) ≡ false →
         (if b then p.sort else parameter_sort ps name) ≡ sort.variable
-    by true later f = absurd (false-not-true (sym f))
+    by true later f = absurd (false_not_true (sym f))
     by false later f = later f
 
 -- The parameter of the block k is among what is known.
@@ -76,7 +72,7 @@ module _ (known : List Declared) (d : Declared) (once : (e : Declared) → Conta
   same_sort [] h f = by (is_formal d.sort) refl f
     where
       by : (b : Bool) → is_formal d.sort ≡ b → (b ≡ true → false ≡ true) → IsSame sort.variable d.sort
-      by true e g = absurd (false-not-true (g refl))
+      by true e g = absurd (false_not_true (g refl))
       by false e g = record { formal = sym e; by_name = sym (no_name d.sort e) }
   same_sort (p ∷ ps) h f = by (same_name p.name d.name) refl (same_sort ps h.1) f
     where
@@ -84,7 +80,7 @@ module _ (known : List Declared) (d : Declared) (once : (e : Declared) → Conta
           (is_formal d.sort ≡ true → (if b then true else has_parameter ps d.name) ≡ true) → IsSame (if b then p.sort else parameter_sort ps d.name) d.sort
       by true e later g =
           let its = h.0 in
-          let one : d ≡ its.declared = once its.declared its.there (sym its.block_is) (sym (its.name_is ∙ same_name-is p.name d.name e)) in
+          let one : d ≡ its.declared = once its.declared its.there (sym its.block_is) (sym (its.name_is ∙ same_name_is p.name d.name e)) in
           is_same p.sort d.sort (sym its.sort_is ∙ ap (λ (z : Declared). z.sort) (sym one))
       by false e later g = later g
 
@@ -104,7 +100,7 @@ given_by (spec.Events ns) v = given_event
 given_by (spec.Arrays kind ns lows) v = given_array lows kind
 
 pub given : (ss : List Spec) (by_value : Bool) (name : List ℕ) → is_unspecified (class_in ss name) ≡ false → IsGiven (sort_in ss by_value name) (class_in ss name)
-given [] v name e = absurd (false-not-true (sym e))
+given [] v name e = absurd (false_not_true (sym e))
 given (s ∷ ss) v name e = by (specified_by s name) (given ss v name) e
   where
     by : (b : Bool) → (is_unspecified (class_in ss name) ≡ false → IsGiven (sort_in ss v name) (class_in ss name)) →
@@ -119,8 +115,8 @@ module _ (h : Heading) where
   pub each_named : (ns : List Named) → AllByRecursion (λ (n : Named). has_parameter (map parameter ns) n.name ≡ true) ns
   each_named [] = tt
   each_named (n ∷ ns) = (
-    ap (λ (b : Bool). if b then true else has_parameter (map parameter ns) n.name) (same_name-itself n.name),
-    all-weaker (λ (m : Named). has_parameter (map parameter ns) m.name ≡ true) (λ (m : Named). has_parameter (map parameter (n ∷ ns)) m.name ≡ true)
+    ap (λ (b : Bool). if b then true else has_parameter (map parameter ns) n.name) (same_name_itself n.name),
+    all_weaker (λ (m : Named). has_parameter (map parameter ns) m.name ≡ true) (λ (m : Named). has_parameter (map parameter (n ∷ ns)) m.name ≡ true)
         (λ m e. either_so (same_name n.name m.name) (has_parameter (map parameter ns) m.name) e) ns (each_named ns),
   )
 
@@ -129,20 +125,20 @@ module _ (h : Heading) where
   none_named seen [] name s e = refl
   none_named seen (n ∷ ns) name s e =
       by (same_name n.name name) refl
-      (none_named (n.name ∷ seen) ns name (either_so (same_name n.name name) (name_is_one_of seen name) s) (none-right (if_so (name_is_one_of seen n.name) n.spot) (repeated (n.name ∷ seen) ns) e))
+      (none_named (n.name ∷ seen) ns name (either_so (same_name n.name name) (name_is_one_of seen name) s) (append_none_right (if_so (name_is_one_of seen n.name) n.spot) (repeated (n.name ∷ seen) ns) e))
     where
       by : (b : Bool) → same_name n.name name ≡ b → has_parameter (map parameter ns) name ≡ false → (if b then true else has_parameter (map parameter ns) name) ≡ false
       by true f later =
-          let other : name_is_one_of seen n.name ≡ false = not_so (name_is_one_of seen n.name) n.spot (none-left (if_so (name_is_one_of seen n.name) n.spot) (repeated (n.name ∷ seen) ns) e) in
-          sym s ∙ ap (name_is_one_of seen) (sym (same_name-is n.name name f)) ∙ other
+          let other : name_is_one_of seen n.name ≡ false = not_so (name_is_one_of seen n.name) n.spot (append_none_left (if_so (name_is_one_of seen n.name) n.spot) (repeated (n.name ∷ seen) ns) e) in
+          sym s ∙ ap (name_is_one_of seen) (sym (same_name_is n.name name f)) ∙ other
       by false f later = later
 
   -- no parameter of a typed procedure has its name
   pub result_clear : twice_in_heading h ≡ [] → is_some h.kind ≡ true → has_parameter (parameters_of h) h.name.name ≡ false
   result_clear e typed =
-      none_named (h.name.name ∷ []) h.params h.name.name (ap (λ (b : Bool). if b then true else false) (same_name-itself h.name.name))
+      none_named (h.name.name ∷ []) h.params h.name.name (ap (λ (b : Bool). if b then true else false) (same_name_itself h.name.name))
       (subst (λ (b : Bool). repeated (if b then h.name.name ∷ [] else []) h.params ≡ []) typed
-      (none-left (repeated (result_names h) h.params) (repeated [] (specified h)) e))
+      (append_none_left (repeated (result_names h) h.params) (repeated [] (specified h)) e))
 
   -- as the body of the procedure knows them
   module _ (k depth : ℕ) where
@@ -161,28 +157,17 @@ module _ (h : Heading) where
     each_parameter [] rest = tt
     each_parameter (n ∷ ns) rest =
         let known : List Declared = map parameter_known ns ++ rest in (
-          record { declared = parameter_known n; there = contains-first (parameter_known n) known; block_is = refl; name_is = refl; sort_is = refl },
-          all-weaker (HasParameter known k) (HasParameter (parameter_known n ∷ known) k) (more_known (parameter_known n ∷ []) known k) (map parameter ns) (each_parameter ns rest),
+          record { declared = parameter_known n; there = contains_first (parameter_known n) known; block_is = refl; name_is = refl; sort_is = refl },
+          all_weaker (HasParameter known k) (HasParameter (parameter_known n ∷ known) k) (more_known (parameter_known n ∷ []) known k) (map parameter ns) (each_parameter ns rest),
         )
 
 -- ---- the cells that a block has from its entry on
 
-pub each_in : (ns : List Named) → AllByRecursion (λ (n : Named). is_named_in ns n.name ≡ true) ns
-each_in [] = tt
-each_in (n ∷ ns) = (
-  ap (λ (b : Bool). if b then true else is_named_in ns n.name) (same_name-itself n.name),
-  all-weaker (λ (m : Named). is_named_in ns m.name ≡ true) (λ (m : Named). is_named_in (n ∷ ns) m.name ≡ true)
-      (λ m e. either_so (same_name n.name m.name) (is_named_in ns m.name) e) ns (each_in ns),
-)
-
-first_so : (b c : Bool) → b ≡ true → (if b then true else c) ≡ true
-first_so b c e = ap (λ (x : Bool). if x then true else c) e
-
 -- those of a declaration, and those of the declarations after it
 pub own_variables : (kind : Kind) (ns : List Named) (ds : PDecls) → AllByRecursion (λ (n : Named). has_variable (tree.decls (tree.simple kind ns) ds) n.name ≡ true) ns
 own_variables kind ns ds =
-    all-weaker (λ (n : Named). is_named_in ns n.name ≡ true) (λ (n : Named). has_variable (tree.decls (tree.simple kind ns) ds) n.name ≡ true)
-    (λ n e. first_so (is_named_in ns n.name) (has_variable ds n.name) e) ns (each_in ns)
+    all_weaker (λ (n : Named). is_named_in ns n.name ≡ true) (λ (n : Named). has_variable (tree.decls (tree.simple kind ns) ds) n.name ≡ true)
+    (λ n e. by_first (is_named_in ns n.name) (has_variable ds n.name) e) ns (each_is_named ns)
 
 pub later_variable : (d : PDecl) (ds : PDecls) (name : List ℕ) → has_variable ds name ≡ true → has_variable (tree.decls d ds) name ≡ true
 later_variable (tree.simple kind ns) ds name e = either_so (is_named_in ns name) (has_variable ds name) e
@@ -202,8 +187,8 @@ variable_simple b name e =
 pub result_simple : (b : Block) (name : List ℕ) → is_some b.result ≡ true → b.name ≡ name → has_simple b name ≡ true
 result_simple b name typed named =
     either_so (has_parameter b.parameters name) (if has_result b.result b.name name then true else has_variable b.decls name)
-    (first_so (has_result b.result b.name name) (has_variable b.decls name) (by b.result typed))
+    (by_first (has_result b.result b.name name) (has_variable b.decls name) (by b.result typed))
   where
     by : (o : Option Kind) → is_some o ≡ true → has_result o b.name name ≡ true
-    by None e = absurd (false-not-true e)
-    by (Some kind) e = ap (λ (m : List ℕ). same_name m name) named ∙ same_name-itself name
+    by None e = absurd (false_not_true e)
+    by (Some kind) e = ap (λ (m : List ℕ). same_name m name) named ∙ same_name_itself name

@@ -1,6 +1,5 @@
 -- The texts of an accepted program, whose places are in the order of its text.
-use Rattle.std.proofs.Common.{arith, ◌≡◌, ℕ, ◌+◌, ◌<◌, ◌≤◌, nat_lt, true, false, List, [], ◌∷◌, ◌++◌, map, length, refl, sym, ap, ◌∙◌, subst, zero, suc}
-use Rattle.std.proofs.lemmas.Bool.Decides.{nat_tests}
+use Rattle.std.proofs.Common.{arith, ◌≡◌, ℕ, ◌+◌, ◌<◌, true, List, [], ◌∷◌, ◌++◌, map, length, refl, sym, ap, ◌∙◌, subst, zero, suc}
 use Rattle.std.specs.List.{AllByRecursion}
 use Rattle.algol_tree.specs.declared.TheConstants.{MOST_LEVEL}
 use Rattle.algol_tree.specs.declared.token.Spot.{Spot}
@@ -17,27 +16,26 @@ use Rattle.algol_tree.specs.Plain.{PProgram}
 use Rattle.algol_tree.specs.Scopes.{Scopes, scopes_of, names_in}
 use Rattle.algol_tree.specs.Sites.{Site, sites_in_decls, sites_in_stmts, has_decls}
 use Rattle.algol_tree.specs.Surroundings.{Surroundings, outermost, knowing_all}
+use Rattle.algol_tree.proofs.Spots.{not_so}
 use Rattle.algol_scope.specs.Stating.{AreNumbered}
-use Rattle.algol_scope.proofs.Numbering.{in-order}
+use Rattle.algol_scope.proofs.Numbering.{in_order}
 use Rattle.algol_meaning.specs.Statements.{items_of}
 use Rattle.algol_paths.specs.Laws.{ItemsKeepToText}
 use Rattle.algol_calls.specs.Fits.{ItemsFit, has_variable}
 use Rattle.algol_front_laws.specs.Declarations.{EachOnce}
 use Rattle.algol_front_laws.specs.Uses.{IsLookedUp, use_in}
-use Rattle.algol_told.proofs.Lists.{none-left, none-right, none-of, all-left, all-right, all-append, all-both}
-use Rattle.algol_front_laws.proofs.Uses.{each-looked-up}
-use Rattle.algol_front_laws.proofs.Sources.{each-site-once, source-in-order}
+use Rattle.algol_told.proofs.Lists.{none_of, all_left, all_right, all_append, all_both}
+use Rattle.algol_front_laws.proofs.Uses.{each_looked_up}
+use Rattle.algol_front_laws.proofs.Sources.{each_site_once, source_in_order}
+use Rattle.b67_list.proofs.Lists.{append_none_left, append_none_right, none_mapped}
+use Rattle.b67_list.proofs.Numbers.{ltb_false}
 use Rattle.algol_texts.specs.Laws.{TextsOfAcceptedFit, TextsOfSourcesFit}
-use Rattle.algol_texts.proofs.Parameters.{not_so, HasParameter}
+use Rattle.algol_texts.proofs.Parameters.{HasParameter}
 use Rattle.algol_texts.proofs.Good.{IsUse, IsGood, AreGood}
 use Rattle.algol_texts.proofs.Callees.{the_block, IsFine, AreFine, AreCallees, IsChain, are_callees}
 use Rattle.algol_texts.proofs.Around.{HaveAll, IsAround, knows_all}
 use Rattle.algol_texts.proofs.Items.{IsTextOf, is_text}
 use Rattle.algol_texts.proofs.Statements.{in_stmts, in_decls}
-
-none_mapped : {X Y : Type 0} (f : X → Y) (xs : List X) → map f xs ≡ [] → xs ≡ []
-none_mapped f [] h = refl
-none_mapped f (x ∷ xs) h = absurd (let clash : f x ∷ map f xs ≡ [] = h in cc)
 
 -- ---- each part is good
 
@@ -59,14 +57,14 @@ kept_by blocks (x ∷ xs) k t w n c =
 each_kept : (p : PProgram) → Accepted p → AllByRecursion (IsKept (blocks_of_program p)) (sites_of p)
 unfolding scope_faults check_faults
 each_kept p accepted =
-    let names = none-left _ _ (none-left _ _ (none-left _ _ (none-left _ _ accepted.scoped))) in
-    let up_to_assigned = none-left _ _ (none-left _ _ (none-left _ _ accepted.checked)) in
-    let types = none-left _ _ up_to_assigned in
+    let names = append_none_left _ _ (append_none_left _ _ (append_none_left _ _ (append_none_left _ _ accepted.scoped))) in
+    let up_to_assigned = append_none_left _ _ (append_none_left _ _ (append_none_left _ _ accepted.checked)) in
+    let types = append_none_left _ _ up_to_assigned in
     let xs = sites_of p in
     let blocks = blocks_of_program p in
-    kept_by blocks xs (none-of unknown_names xs (none_mapped _ _ (none-left _ _ names))) (none-of (declared_twice blocks) xs (none_mapped _ _ (none-right _ _ names)))
-    (none-of (wrong_types blocks) xs (none_mapped _ _ (none-left _ _ types))) (none-of (not_assignable blocks) xs (none_mapped _ _ (none-right _ _ up_to_assigned)))
-    (none-of wrong_counts xs (none_mapped _ _ (none-right _ _ types)))
+    kept_by blocks xs (none_of unknown_names xs (none_mapped _ _ (append_none_left _ _ names))) (none_of (declared_twice blocks) xs (none_mapped _ _ (append_none_right _ _ names)))
+    (none_of (wrong_types blocks) xs (none_mapped _ _ (append_none_left _ _ types))) (none_of (not_assignable blocks) xs (none_mapped _ _ (append_none_right _ _ up_to_assigned)))
+    (none_of wrong_counts xs (none_mapped _ _ (append_none_right _ _ types)))
 
 module _ (p : PProgram) where
   uses_good : (x : Site) (ns : List Named) → AllByRecursion (λ (n : Named). IsLookedUp p x.part x.around n) ns →
@@ -77,17 +75,14 @@ module _ (p : PProgram) where
   each_good : Accepted p → IsInOrder p → AreGood (scopes_of p) (sites_of p)
   unfolding scopes_of
   each_good accepted order =
-      all-both (λ (x : Site). AllByRecursion (λ (n : Named). IsLookedUp p x.part x.around n) (names_in x.part)) (λ (x : Site). EachOnce x.around × IsKept (blocks_of_program p) x) (IsGood (scopes_of p))
+      all_both (λ (x : Site). AllByRecursion (λ (n : Named). IsLookedUp p x.part x.around n) (names_in x.part)) (λ (x : Site). EachOnce x.around × IsKept (blocks_of_program p) x) (IsGood (scopes_of p))
       (λ x u k.
       record { uses = uses_good x (names_in x.part) u; once = k.0; known = k.1.known; clear = k.1.clear; right = k.1.right; assignable = k.1.assignable; counted = k.1.counted })
-      (sites_of p) (each-looked-up p accepted.scoped order)
-      (all-both (λ (x : Site). EachOnce x.around) (IsKept (blocks_of_program p)) (λ (x : Site). EachOnce x.around × IsKept (blocks_of_program p) x) (λ x o k. (o, k)) (sites_of p)
-      (each-site-once p accepted.scoped order) (each_kept p accepted))
+      (sites_of p) (each_looked_up p accepted.scoped order)
+      (all_both (λ (x : Site). EachOnce x.around) (IsKept (blocks_of_program p)) (λ (x : Site). EachOnce x.around × IsKept (blocks_of_program p) x) (λ x o k. (o, k)) (sites_of p)
+      (each_site_once p accepted.scoped order) (each_kept p accepted))
 
 -- ---- each block is fine
-
-not_over : (most n : ℕ) → nat_lt most n ≡ false → n ≤ most
-not_over most n h = grind (arith, nat_tests)
 
 abbrev IsLow : Block → Type 0
 IsLow b = if_so (is_too_deep (level_of b)) b.spot ≡ []
@@ -100,7 +95,7 @@ module _ (blocks : List Block) where
     record {
       there = omega (arith, e, h.0);
       it_is = ap (block_numbered blocks) h.0 ∙ h.1.0;
-      low = not_over MOST_LEVEL (level_of b) (not_so (is_too_deep (level_of b)) b.spot l.0);
+      low = ltb_false MOST_LEVEL (level_of b) (not_so (is_too_deep (level_of b)) b.spot l.0);
     },
     fine_from (n + 1) bs (omega (arith, e)) h.1.1 l.1,
   )
@@ -108,11 +103,11 @@ module _ (blocks : List Block) where
 each_low : (p : PProgram) → Accepted p → AllByRecursion IsLow (blocks_of_program p)
 unfolding scope_faults
 each_low p accepted =
-    none-of (λ (b : Block). if_so (is_too_deep (level_of b)) b.spot) (blocks_of_program p)
-    (none-left (deep_blocks (blocks_of_program p)) _ (none_mapped _ _ (none-right _ _ (none-left _ _ (none-left _ _ (none-left _ _ accepted.scoped))))))
+    none_of (λ (b : Block). if_so (is_too_deep (level_of b)) b.spot) (blocks_of_program p)
+    (append_none_left (deep_blocks (blocks_of_program p)) _ (none_mapped _ _ (append_none_right _ _ (append_none_left _ _ (append_none_left _ _ (append_none_left _ _ accepted.scoped))))))
 
 each_fine : (p : PProgram) → Accepted p → IsInOrder p → AreFine (blocks_of_program p) (blocks_of_program p)
-each_fine p accepted order = fine_from (blocks_of_program p) 0 (blocks_of_program p) (omega arith) (in-order p order) (each_low p accepted)
+each_fine p accepted order = fine_from (blocks_of_program p) 0 (blocks_of_program p) (omega arith) (in_order p order) (each_low p accepted)
 
 -- ---- the texts by their numbers
 
@@ -163,21 +158,21 @@ each_text (tree.program (tree.body spot ds ss)) accepted order =
     let stated : List Site = sites_in_stmts blocks ss (has_decls ds) after in
     let good : AreGood sc (declared ++ stated) = each_good p accepted order in
     let fine : AreFine blocks (first ∷ inner) = each_fine p accepted order in
-    let begun : IsAround blocks k outer outermost = outermost_around blocks spot (omega arith) refl refl ((in-order p order).0) in
-    let fine_decls = all-left (IsFine blocks) (blocks_in_decls ds outer) (blocks_in_stmts ss outer) fine.1 in
-    let fine_stmts = all-right (IsFine blocks) (blocks_in_decls ds outer) (blocks_in_stmts ss outer) fine.1 in
-    let part = all-left (IsGood sc) declared stated good in
+    let begun : IsAround blocks k outer outermost = outermost_around blocks spot (omega arith) refl refl ((in_order p order).0) in
+    let fine_decls = all_left (IsFine blocks) (blocks_in_decls ds outer) (blocks_in_stmts ss outer) fine.1 in
+    let fine_stmts = all_right (IsFine blocks) (blocks_in_decls ds outer) (blocks_in_stmts ss outer) fine.1 in
+    let part = all_left (IsGood sc) declared stated good in
     let called : AreCallees blocks k ds =
     are_callees sc k outer begun.chain_is ds outermost [] (λ name e. subst (λ (z : Block). has_variable z.decls name ≡ true) (sym fine.0.it_is) e) fine_decls part in
     let bounds = in_decls sc k outer outermost ds [] begun begun tt called part fine_decls in
-    let nested = in_stmts sc k outer after ss (has_decls ds) (knows_all blocks k outer ds outermost called begun) (all-right (IsGood sc) declared stated good) fine_stmts in
-    (is_text sc first fine.0 bounds.0 nested.0, all-append (IsTextOf sc) (blocks_in_decls ds outer) (blocks_in_stmts ss outer) bounds.1 nested.1)
+    let nested = in_stmts sc k outer after ss (has_decls ds) (knows_all blocks k outer ds outermost called begun) (all_right (IsGood sc) declared stated good) fine_stmts in
+    (is_text sc first fine.0 bounds.0 nested.0, all_append (IsTextOf sc) (blocks_in_decls ds outer) (blocks_in_stmts ss outer) bounds.1 nested.1)
 
 texts_are : (p : PProgram) → Accepted p → IsInOrder p → (j : ℕ) → j < length (scopes_of p).blocks → TextAt (scopes_of p) j
 unfolding scopes_of
 texts_are p accepted order j h =
     let from : 0 + j ≡ j = omega arith in
-    subst (TextAt (scopes_of p)) from (text_from (scopes_of p) 0 (blocks_of_program p) (in-order p order) (each_text p accepted order) j h)
+    subst (TextAt (scopes_of p)) from (text_from (scopes_of p) 0 (blocks_of_program p) (in_order p order) (each_text p accepted order) j h)
 
 -- the block that comes first
 record IsOutermost (sc : Scopes) : Type 0 where
@@ -199,4 +194,4 @@ texts_of_accepted_fit p accepted order =
     }
 
 pub texts_of_sources_fit : TextsOfSourcesFit
-texts_of_sources_fit bytes p s = texts_of_accepted_fit p s.accepted (source-in-order bytes p s)
+texts_of_sources_fit bytes p s = texts_of_accepted_fit p s.accepted (source_in_order bytes p s)

@@ -16,13 +16,16 @@ use Rattle.algol_tree.specs.Sites.{Site, sites, inside_list, inside_actuals, her
 use Rattle.algol_tree.specs.Sorts.{Declared}
 use Rattle.algol_tree.specs.Surroundings.{Surroundings, formals_at, knowing, knowing_all, inside_begin, inside_procedure}
 use Rattle.algol_tree.specs.Types.{read_type}
+use Rattle.algol_tree.proofs.Spots.{not_so}
 use Rattle.algol_paths.specs.Blocks.{IsInner}
 use Rattle.algol_calls.specs.Fits as fits
 use Rattle.algol_calls.specs.Fits.{sorts_wanted, ActualsFit, has_variable}
 use Rattle.algol_front_laws.specs.Uses.{use_by_name}
-use Rattle.algol_told.proofs.Lists.{none-left, none-right, all-append, all-left, all-right}
-use Rattle.algol_texts.proofs.Parameters.{not_so, HasParameter}
-use Rattle.algol_texts.proofs.Good.{IsGood, AreGood, first_so}
+use Rattle.algol_told.proofs.Lists.{all_append, all_left, all_right}
+use Rattle.b67_list.proofs.Lists.{append_none_left, append_none_right}
+use Rattle.b67_list.proofs.Truths.{and_first}
+use Rattle.algol_texts.proofs.Parameters.{HasParameter}
+use Rattle.algol_texts.proofs.Good.{IsGood, AreGood}
 use Rattle.algol_texts.proofs.Callees.{the_block, IsFine, AreFine, DeclaresCallee, AreCallees, are_callees}
 use Rattle.algol_texts.proofs.Around.{HasAll, IsAround, knows_one, knows_all, enters, enters_procedure}
 use Rattle.algol_texts.proofs.Uses.{label_is, its_known, name_right, seen, labelled}
@@ -64,19 +67,19 @@ module _ (sc : Scopes) where
   stmt_sites t begin listed a = here_stmt t listed a ∷ inside_stmt sc.blocks t begin listed a
 
   front : (xs ys : List Site) → Good (xs ++ ys) → Good xs
-  front xs ys g = all-left (IsGood sc) xs ys g
+  front xs ys g = all_left (IsGood sc) xs ys g
 
   back : (xs ys : List Site) → Good (xs ++ ys) → Good ys
-  back xs ys g = all-right (IsGood sc) xs ys g
+  back xs ys g = all_right (IsGood sc) xs ys g
 
   fine_front : (bs cs : List Block) → Fine (bs ++ cs) → Fine bs
-  fine_front bs cs f = all-left (IsFine sc.blocks) bs cs f
+  fine_front bs cs f = all_left (IsFine sc.blocks) bs cs f
 
   fine_back : (bs cs : List Block) → Fine (bs ++ cs) → Fine cs
-  fine_back bs cs f = all-right (IsFine sc.blocks) bs cs f
+  fine_back bs cs f = all_right (IsFine sc.blocks) bs cs f
 
   joined : (bs cs : List Block) → Texts bs → Texts cs → Texts (bs ++ cs)
-  joined bs cs g h = all-append (IsTextOf sc) bs cs g h
+  joined bs cs g h = all_append (IsTextOf sc) bs cs g h
 
   -- `j`: the block in which it stands. The body of a procedure is the text of the procedure's block.
   abbrev IsTextIn : Begin → ℕ → PStmt → Type 0
@@ -109,8 +112,8 @@ module _ (sc : Scopes) where
       IsGood sc (here_stmt (tree.process (tree.called n es) task) listed a) → Good (inside_actuals es (formals_at a n) a) → fits.IsCallee sc n × ActualsFit sc es (sorts_wanted sc n)
   started_fits j outer a r n es task listed g h =
       let u = g.uses.0 in
-      let named = name_right sc j outer a r (use_by_name a n) n u untyped (none-left (wrong_by sc j outer a r untyped n) _ g.right) in
-      call_fits sc j outer a r g.once n es u (first_so (is_procedure u.declared.class) (not (is_some (read_type u.declared.class))) named)
+      let named = name_right sc j outer a r (use_by_name a n) n u untyped (append_none_left (wrong_by sc j outer a r untyped n) _ g.right) in
+      call_fits sc j outer a r g.once n es u (and_first (is_procedure u.declared.class) (not (is_some (read_type u.declared.class))) named)
       (λ k c.
       let its : if_so (not (length k.params == exprs_count es)) n.spot ≡ [] = rw c at g.counted in
       counted_as (length k.params) (exprs_count es) (not_so (not (length k.params == exprs_count es)) n.spot its))
@@ -227,7 +230,7 @@ module _ (sc : Scopes) where
     in_stmt j outer a (tree.process (tree.called n es) (Some task)) g l r y h f =
         let u = h.0.uses.0 in
         let fit = started_fits j outer a r n es (Some task) l h.0 h.1 in
-        let its = task_in sc j outer a r h.0.once task h.0.uses.1.0 (none-right (wrong_by sc j outer a r untyped n) _ h.0.right) in
+        let its = task_in sc j outer a r h.0.once task h.0.uses.1.0 (append_none_right (wrong_by sc j outer a r untyped n) _ h.0.right) in
         let actuals = in_actuals sc j outer a r h.0.once es (formals_at a n) h.1 in
         (text_in g j (tree.process (tree.called n es) (Some task)) tt ((seen sc j outer a r h.0.once n u, actuals, seen sc j outer a r h.0.once task h.0.uses.1.0), (fit.0, fit.1, its)), tt)
     in_stmt j outer a (tree.event act e) g l r y h f =

@@ -12,17 +12,19 @@ use Rattle.algol_tree.specs.Sorts as sort
 use Rattle.algol_tree.specs.Sorts.{Sort, is_formal, is_by_name, is_variable, procedure_in, Declared, parameters_of}
 use Rattle.algol_tree.specs.Surroundings.{Surroundings, class_of_declared, class_of}
 use Rattle.algol_tree.specs.Types.{read_type}
+use Rattle.algol_tree.proofs.Trees.{use_is}
 use Rattle.algol_meaning.specs.Settle.{sorts_of, block_of_sort, sort_at}
 use Rattle.algol_paths.specs.Blocks.{BlockIsSeen}
 use Rattle.algol_calls.specs.Fits as fits
 use Rattle.algol_calls.specs.Fits.{parameter_sort, has_simple, own_sort, NameIsTold, NameLeads, sorts_wanted, AloneFits, IsNameOfIt}
 use Rattle.algol_front_laws.specs.Declarations.{EachOnce}
 use Rattle.algol_front_laws.specs.Uses.{use_by_name}
-use Rattle.algol_told.proofs.Lists.{of-contained, false-not-true}
+use Rattle.algol_told.proofs.Lists.{of_contained, false_not_true}
+use Rattle.b67_list.proofs.Lists.{each_at}
 use Rattle.algol_texts.proofs.Parameters.{IsSame, same_sort}
-use Rattle.algol_texts.proofs.Good.{IsUse, IsUsed, use_is, test_holds}
+use Rattle.algol_texts.proofs.Good.{IsUse, IsUsed, test_holds}
 use Rattle.algol_texts.proofs.Callees.{AreSpecified, parameters_at, IsCallee}
-use Rattle.algol_texts.proofs.Around.{Means, a_variable, a_name, an_array, a_formal_array, an_event, a_task, a_formal_event, a_label, a_procedure, IsKnown, HasAll, IsAround, IsFound, found_there, each_at}
+use Rattle.algol_texts.proofs.Around.{Means, a_variable, a_name, an_array, a_formal_array, an_event, a_task, a_formal_event, a_label, a_procedure, IsKnown, HasAll, IsAround, IsFound, found_there}
 
 -- ---- by class
 
@@ -45,37 +47,37 @@ module _ (blocks : List Block) (block : ℕ) (name : List ℕ) where
   pub array_other : (s : Sort) (c : Class) → Means blocks block name s c → is_array c ≡ true → IsOther s
   array_other s c (an_array kind count) e = (refl, refl)
   array_other s c (a_formal_array lows kind) e = (refl, refl)
-  array_other s c m e = absurd (false-not-true e)
+  array_other s c m e = absurd (false_not_true e)
 
   pub event_other : (s : Sort) (c : Class) → Means blocks block name s c → is_event c ≡ true → IsOther s
   event_other s c an_event e = (refl, refl)
   event_other s c a_formal_event e = (refl, refl)
-  event_other s c m e = absurd (false-not-true e)
+  event_other s c m e = absurd (false_not_true e)
 
   pub task_other : (s : Sort) (c : Class) → Means blocks block name s c → is_task c ≡ true → IsOther s × (is_formal s ≡ false)
   task_other s c a_task e = ((refl, refl), refl)
-  task_other s c m e = absurd (false-not-true e)
+  task_other s c m e = absurd (false_not_true e)
 
   pub label_is : (s : Sort) (c : Class) → Means blocks block name s c → is_label c ≡ true → s ≡ sort.label
   label_is s c a_label e = refl
-  label_is s c m e = absurd (false-not-true e)
+  label_is s c m e = absurd (false_not_true e)
 
   -- of a variable only one by name stands for something else
   pub simple_left : (s : Sort) (c : Class) → Means blocks block name s c → is_simple c ≡ true → (procedure_in s ≡ None) × (is_formal s ≡ is_by_name s)
   simple_left s c (a_variable kind) e = (refl, refl)
   simple_left s c (a_name kind) e = (refl, refl)
-  simple_left s c m e = absurd (false-not-true e)
+  simple_left s c m e = absurd (false_not_true e)
 
   pub procedure_is : (s : Sort) (c : Class) → Means blocks block name s c → is_procedure c ≡ true → IsProcedure s c
   procedure_is s c (a_procedure h callee named) e = record { heading = h; callee = callee; named = named; sort_is = refl; class_is = refl }
-  procedure_is s c m e = absurd (false-not-true e)
+  procedure_is s c m e = absurd (false_not_true e)
 
   -- what is read is a variable or is called
   pub read_is : (s : Sort) (c : Class) → Means blocks block name s c → is_some (read_type c) ≡ true → (is_simple c ≡ true) ⊎ (is_procedure c ≡ true)
   read_is s c (a_variable kind) e = inl refl
   read_is s c (a_name kind) e = inl refl
   read_is s c (a_procedure h callee named) e = inr refl
-  read_is s c m e = absurd (false-not-true e)
+  read_is s c m e = absurd (false_not_true e)
 
 -- ---- names by their uses
 
@@ -108,7 +110,7 @@ module _ (sc : Scopes) (j : ℕ) (outer : List Spot) (a : Surroundings) (r : IsA
     its_found = found_there a.known n.name u.declared u.found
 
     pub its_known : IsKnown sc.blocks j a.depth u.declared
-    its_known = of-contained (IsKnown sc.blocks j a.depth) a.known u.declared r.known its_found.there
+    its_known = of_contained (IsKnown sc.blocks j a.depth) a.known u.declared r.known its_found.there
 
     pub its_class : class_of a n ≡ u.declared.class
     its_class = ap class_of_declared u.found

@@ -10,7 +10,7 @@ use Rattle.algol_tree.specs.Sites.{Site, has_decls, here_stmt, inside_decl, insi
 use Rattle.algol_tree.specs.Sorts.{Declared}
 use Rattle.algol_tree.specs.Surroundings.{Surroundings, inside, inside_procedure, knowing, knowing_all, outermost}
 use Rattle.algol_told.specs.Parameters.{HasAt}
-use Rattle.algol_told.proofs.Lists.{all-left, all-right}
+use Rattle.algol_told.proofs.Lists.{all_left, all_right}
 
 -- `P`: what holds of a declaration before those after it
 module _ (P : PDecl → PDecls → Type 0) where
@@ -47,56 +47,56 @@ module _ (P : PDecl → PDecls → Type 0) where
     Each xs = AllByRecursion (HasAt P) xs
 
     first : (xs ys : List Site) → Each (xs ++ ys) → Each xs
-    first xs ys h = all-left (HasAt P) xs ys h
+    first xs ys h = all_left (HasAt P) xs ys h
 
     last : (xs ys : List Site) → Each (xs ++ ys) → Each ys
-    last xs ys h = all-right (HasAt P) xs ys h
+    last xs ys h = all_right (HasAt P) xs ys h
 
-    abbrev stmt-sites : PStmt → Surroundings → List Site
-    stmt-sites s a = here_stmt s false a ∷ inside_stmt blocks s of_statement false a
+    abbrev stmt_sites : PStmt → Surroundings → List Site
+    stmt_sites s a = here_stmt s false a ∷ inside_stmt blocks s of_statement false a
 
     mutual
-      in-stmt : (s : PStmt) (begin : Begin) (listed : Bool) (a : Surroundings) → Each (inside_stmt blocks s begin listed a) → StmtHas s
-      in-stmt (tree.label n s) begin listed a h = in-stmt s of_statement listed a h.1
-      in-stmt (tree.block (tree.body spot ds ss)) begin listed a h =
+      in_stmt : (s : PStmt) (begin : Begin) (listed : Bool) (a : Surroundings) → Each (inside_stmt blocks s begin listed a) → StmtHas s
+      in_stmt (tree.label n s) begin listed a h = in_stmt s of_statement listed a h.1
+      in_stmt (tree.block (tree.body spot ds ss)) begin listed a h =
           let b : Surroundings = inside blocks begin (tree.body spot ds ss) a in
           let xs : List Site = sites_in_decls blocks ds b b.known in
           let ys : List Site = sites_in_stmts blocks ss (has_decls ds) (knowing_all blocks ds b) in
-          (in-decls ds b b.known (first xs ys h), in-stmts ss (has_decls ds) (knowing_all blocks ds b) (last xs ys h))
-      in-stmt (tree.if_then c x) begin listed a h = in-stmt x of_statement false a (last (sites c a) (stmt-sites x a) h).1
-      in-stmt (tree.if_else c x y) begin listed a h = (
-        in-stmt x of_statement false a (last (sites c a) (stmt-sites x a) (first (sites c a ++ stmt-sites x a) (stmt-sites y a) h)).1,
-        in-stmt y of_statement false a (last (sites c a ++ stmt-sites x a) (stmt-sites y a) h).1,
+          (in_decls ds b b.known (first xs ys h), in_stmts ss (has_decls ds) (knowing_all blocks ds b) (last xs ys h))
+      in_stmt (tree.if_then c x) begin listed a h = in_stmt x of_statement false a (last (sites c a) (stmt_sites x a) h).1
+      in_stmt (tree.if_else c x y) begin listed a h = (
+        in_stmt x of_statement false a (last (sites c a) (stmt_sites x a) (first (sites c a ++ stmt_sites x a) (stmt_sites y a) h)).1,
+        in_stmt y of_statement false a (last (sites c a ++ stmt_sites x a) (stmt_sites y a) h).1,
       )
-      in-stmt (tree.while c b) begin listed a h = in-stmt b of_statement false a (last (sites c a) (stmt-sites b a) h).1
-      in-stmt (tree.until b c) begin listed a h = in-stmt b of_statement false a (first (stmt-sites b a) (sites c a) h).1
-      in-stmt (tree.for v x s l b) begin listed a h = in-stmt b of_statement false a (last (sites x a ++ sites s a ++ sites l a) (stmt-sites b a) h).1
-      in-stmt (tree.thru e b) begin listed a h = in-stmt b of_statement false a (last (sites e a) (stmt-sites b a) h).1
-      in-stmt (tree.case e ss) begin listed a h = in-stmts ss false a (last (sites e a) (sites_in_stmts blocks ss false a) h)
-      in-stmt s begin listed a h = tt
+      in_stmt (tree.while c b) begin listed a h = in_stmt b of_statement false a (last (sites c a) (stmt_sites b a) h).1
+      in_stmt (tree.until b c) begin listed a h = in_stmt b of_statement false a (first (stmt_sites b a) (sites c a) h).1
+      in_stmt (tree.for v x s l b) begin listed a h = in_stmt b of_statement false a (last (sites x a ++ sites s a ++ sites l a) (stmt_sites b a) h).1
+      in_stmt (tree.thru e b) begin listed a h = in_stmt b of_statement false a (last (sites e a) (stmt_sites b a) h).1
+      in_stmt (tree.case e ss) begin listed a h = in_stmts ss false a (last (sites e a) (sites_in_stmts blocks ss false a) h)
+      in_stmt s begin listed a h = tt
 
-      in-stmts : (ss : PStmts) (listed : Bool) (a : Surroundings) → Each (sites_in_stmts blocks ss listed a) → StmtsHave ss
-      in-stmts tree.no_stmts listed a h = tt
-      in-stmts (tree.stmts s ss) listed a h =
+      in_stmts : (ss : PStmts) (listed : Bool) (a : Surroundings) → Each (sites_in_stmts blocks ss listed a) → StmtsHave ss
+      in_stmts tree.no_stmts listed a h = tt
+      in_stmts (tree.stmts s ss) listed a h =
           let own : List Site = inside_stmt blocks s of_statement listed a in
           let more : List Site = sites_in_stmts blocks ss listed a in
-          (in-stmt s of_statement listed a (first own more h.1), in-stmts ss listed a (last own more h.1))
+          (in_stmt s of_statement listed a (first own more h.1), in_stmts ss listed a (last own more h.1))
 
-      in-decls : (ds : PDecls) (a : Surroundings) (begun : List Declared) → Each (sites_in_decls blocks ds a begun) → DeclsHave ds
-      in-decls tree.no_decls a begun h = tt
-      in-decls (tree.decls d ds) a begun h =
+      in_decls : (ds : PDecls) (a : Surroundings) (begun : List Declared) → Each (sites_in_decls blocks ds a begun) → DeclsHave ds
+      in_decls tree.no_decls a begun h = tt
+      in_decls (tree.decls d ds) a begun h =
           let n : Surroundings = knowing blocks d ds a in
           let own : List Site = inside_decl blocks d n begun in
           let more : List Site = sites_in_decls blocks ds n begun in
-          (h.0, (in-decl d n begun (first own more h.1), in-decls ds n begun (last own more h.1)))
+          (h.0, (in_decl d n begun (first own more h.1), in_decls ds n begun (last own more h.1)))
 
       -- the place is after the declaration
-      in-decl : (d : PDecl) (a : Surroundings) (begun : List Declared) → Each (inside_decl blocks d a begun) → InDecl d
-      in-decl (tree.procedure h s) a begun k = in-stmt s of_procedure false (inside_procedure blocks h a) k.1
-      in-decl d a begun k = tt
+      in_decl : (d : PDecl) (a : Surroundings) (begun : List Declared) → Each (inside_decl blocks d a begun) → InDecl d
+      in_decl (tree.procedure h s) a begun k = in_stmt s of_procedure false (inside_procedure blocks h a) k.1
+      in_decl d a begun k = tt
 
-    pub in-program : (spot : Spot) (ds : PDecls) (ss : PStmts) → Each (sites_by (tree.program (tree.body spot ds ss)) blocks) → DeclsHave ds × StmtsHave ss
-    in-program spot ds ss h =
+    pub in_program : (spot : Spot) (ds : PDecls) (ss : PStmts) → Each (sites_by (tree.program (tree.body spot ds ss)) blocks) → DeclsHave ds × StmtsHave ss
+    in_program spot ds ss h =
         let xs : List Site = sites_in_decls blocks ds outermost [] in
         let ys : List Site = sites_in_stmts blocks ss (has_decls ds) (knowing_all blocks ds outermost) in
-        (in-decls ds outermost [] (first xs ys h), in-stmts ss (has_decls ds) (knowing_all blocks ds outermost) (last xs ys h))
+        (in_decls ds outermost [] (first xs ys h), in_stmts ss (has_decls ds) (knowing_all blocks ds outermost) (last xs ys h))

@@ -1,5 +1,5 @@
 -- The scopes tell of the names at each part of a tree what these are declared as there.
-use Rattle.std.proofs.Common.{◌≡◌, ℕ, ◌+◌, ◌<◌, Bool, true, false, List, [], ◌∷◌, map, length, Option, Some, None, refl, subst, ap, ◌∙◌, arith}
+use Rattle.std.proofs.Common.{◌≡◌, ℕ, ◌+◌, ◌<◌, Bool, true, false, List, [], ◌∷◌, map, length, Option, Some, None, refl, ap, ◌∙◌, arith}
 use Rattle.std.specs.Prelude.{if◌then◌else◌, is_some, not}
 use Rattle.std.specs.List.{AllByRecursion}
 use Rattle.std.specs.Option.{option_or}
@@ -9,7 +9,7 @@ use Rattle.algol_tree.specs.declared.tree.Heading.{Heading}
 use Rattle.algol_tree.specs.Plain as tree
 use Rattle.algol_tree.specs.Plain.{PDecl, PDecls, PProgram, PStmt}
 use Rattle.algol_tree.specs.Classes as class
-use Rattle.algol_tree.specs.Sorts.{Declared, formals_of, look_up, same_name}
+use Rattle.algol_tree.specs.Sorts.{Declared, formals_of}
 use Rattle.algol_tree.specs.Blocks.{Block, blocks_of_program, number_at, same_spot}
 use Rattle.algol_tree.specs.Surroundings.{Surroundings, declared_as, inside_procedure, knowing}
 use Rattle.algol_tree.specs.Sites as site
@@ -20,36 +20,30 @@ use Rattle.algol_tree.specs.Couples.{Known, Located, known_at, known_there}
 use Rattle.algol_tree.specs.Names.{declared_twice, if_so, places_if, unknown_in_part, unknown_names}
 use Rattle.algol_tree.specs.Accepted.{sites_of}
 use Rattle.algol_tree.specs.Ascending.{IsInOrder}
+use Rattle.algol_tree.proofs.Trees.{found_known}
 use Rattle.algol_sorts.specs.Sorts.{parameter_of, sort_of}
 use Rattle.algol_frames.specs.declared.scopes.Declared as found
 use Rattle.algol_frames.specs.declared.scopes.Scopes.{Scopes}
 use Rattle.algol_scope.specs.Noting.{parameters_by, parameters_here}
 use Rattle.algol_scope.specs.Resolved.{AreOf, Meaning, couple, declaration_of, located, meaning, meaning_at, meant, number_among, parameters_among, parameters_at}
+use Rattle.b67_list.proofs.Lists.{append_none_left, append_none_right}
 use Rattle.algol_told.specs.Telling.{EachPartIsTold, ScopesTell, TellsAt}
-use Rattle.algol_told.proofs.Lists.{all-both, each-of, none-left, none-of, none-right}
-use Rattle.algol_told.proofs.Walk.{HoldsAt, all-hold}
-use Rattle.algol_told.proofs.Places.{IsSo, IsThere, declared-there, each-there, names-so, names_known}
+use Rattle.algol_told.proofs.Lists.{all_both, each_of, none_of}
+use Rattle.algol_told.proofs.Walk.{HoldsAt, all_hold}
+use Rattle.algol_told.proofs.Places.{IsSo, IsThere, declared_there, each_there, names_so, names_known}
 use Rattle.algol_told.proofs.Held as held
 use Rattle.algol_told.proofs.Held.{AllHeld, IsHeld}
-use Rattle.algol_told.proofs.Headings.{AllAtHeadings, IsAtHeading, enters-at, knows-at}
-use Rattle.algol_told.proofs.Unbroken.{named, not-unknown}
+use Rattle.algol_told.proofs.Headings.{AllAtHeadings, IsAtHeading, enters_at, knows_at}
+use Rattle.algol_told.proofs.Unbroken.{named, not_unknown}
 
 -- ---- what holds of all that are known holds of what is found
 
-pub all-found : (P : Declared → Type 0) (ds : List Declared) (name : List ℕ) (d : Declared) → AllByRecursion P ds → look_up ds name ≡ Some d → P d
-all-found P [] name d h e = absurd (let clash : None ≡ Some d = e in cc)
-all-found P (x ∷ ds) name d h e = decide (same_name x.name name) e (all-found P ds name d h.1)
-  where
-    decide : (b : Bool) → (if b then Some x else look_up ds name) ≡ Some d → (look_up ds name ≡ Some d → P d) → P d
-    decide true q on = (let same : x ≡ d = cc in subst P same h.0)
-    decide false q on = on q
-
 -- ---- parameters
 
-parameters-there : (ks : List Known) (spot : Spot) (d : Declared) (h : Heading) → known_there ks spot ≡ Some d → d.spot ≡ spot → d.class ≡ class.procedure h →
+pub parameters_there : (ks : List Known) (spot : Spot) (d : Declared) (h : Heading) → known_there ks spot ≡ Some d → d.spot ≡ spot → d.class ≡ class.procedure h →
     parameters_among ks spot ≡ Some (map parameter_of (formals_of h))
-parameters-there [] spot d h e s c = absurd (let clash : None ≡ Some d = e in cc)
-parameters-there (k ∷ ks) spot d h e s c = decide (same_spot k.spot spot) refl e (λ q. parameters-there ks spot d h q s c)
+parameters_there [] spot d h e s c = absurd (let clash : None ≡ Some d = e in cc)
+parameters_there (k ∷ ks) spot d h e s c = decide (same_spot k.spot spot) refl e (λ q. parameters_there ks spot d h q s c)
   where
     decide : (b : Bool) → same_spot k.spot spot ≡ b → (if b then Some k.declared else known_there ks spot) ≡ Some d →
         (known_there ks spot ≡ Some d → parameters_among ks spot ≡ Some (map parameter_of (formals_of h))) →
@@ -64,9 +58,9 @@ parameters-there (k ∷ ks) spot d h e s c = decide (same_spot k.spot spot) refl
 
 -- ---- the number of a block
 
-pub number-there : (n : ℕ) (bs : List Block) (spot : Spot) → number_at bs spot < length bs → number_among n bs spot ≡ Some (n + number_at bs spot)
-number-there n [] spot h = absurd (omega (arith, h))
-number-there n (b ∷ bs) spot h = decide (same_spot b.spot spot) h (number-there (n + 1) bs spot)
+pub number_there : (n : ℕ) (bs : List Block) (spot : Spot) → number_at bs spot < length bs → number_among n bs spot ≡ Some (n + number_at bs spot)
+number_there n [] spot h = absurd (omega (arith, h))
+number_there n (b ∷ bs) spot h = decide (same_spot b.spot spot) h (number_there (n + 1) bs spot)
   where
     decide : (t : Bool) → (if t then 0 else number_at bs spot + 1) < length (b ∷ bs) →
         (number_at bs spot < length bs → number_among (n + 1) bs spot ≡ Some (n + 1 + number_at bs spot)) →
@@ -79,15 +73,15 @@ number-there n (b ∷ bs) spot h = decide (same_spot b.spot spot) h (number-ther
 
 -- ---- one name
 
-pub meaning-there : (p : PProgram) (spot : Spot) (d : Declared) → known_there (names_known p) spot ≡ Some d →
+pub meaning_there : (p : PProgram) (spot : Spot) (d : Declared) → known_there (names_known p) spot ≡ Some d →
     meaning_at p spot ≡ Some (record { block = d.block; sort = sort_of d })
 unfolding meaning_at
-meaning-there p spot d h = ap meant h
+meaning_there p spot d h = ap meant h
 
-parameters-at : (p : PProgram) (d : Declared) (h : Heading) → known_there (names_known p) d.spot ≡ Some d → d.class ≡ class.procedure h →
+pub parameters_of_known : (p : PProgram) (d : Declared) (h : Heading) → known_there (names_known p) d.spot ≡ Some d → d.class ≡ class.procedure h →
     parameters_at p d.spot ≡ Some (map parameter_of (formals_of h))
 unfolding parameters_at
-parameters-at p d h e c = parameters-there (names_known p) d.spot d h e refl c
+parameters_of_known p d h e c = parameters_there (names_known p) d.spot d h e refl c
 
 -- what a walk carries along
 pub record Carries (p : PProgram) (a : Surroundings) : Type 0 where
@@ -95,18 +89,18 @@ pub record Carries (p : PProgram) (a : Surroundings) : Type 0 where
   pub headings : AllAtHeadings (blocks_of_program p) a
 
 module _ (p : PProgram) (s : Scopes) (are : AreOf p s) where
-  tells-found : (a : Surroundings) (n : Named) (d : Declared) → Carries p a → declared_as a n ≡ Some d → known_there (names_known p) n.spot ≡ Some d →
+  tells_found : (a : Surroundings) (n : Named) (d : Declared) → Carries p a → declared_as a n ≡ Some d → known_there (names_known p) n.spot ≡ Some d →
       (o : Option found.Declared) → declaration_of s n.spot ≡ o →
       located o ≡
       Some
       (record { spot = d.spot; level = level_at d.depth; couple = couple_in (blocks_of_program p) (sites_of p) d.block d.spot }) →
       meaning o ≡ Some (record { block = d.block; sort = sort_of d }) → ScopesTell s a n
-  tells-found a n d k f t None e l m = absurd (let clash : None ≡ Some (record { block = d.block; sort = sort_of d }) = m in cc)
-  tells-found a n d k f t (Some x) e l m =
+  tells_found a n d k f t None e l m = absurd (let clash : None ≡ Some (record { block = d.block; sort = sort_of d }) = m in cc)
+  tells_found a n d k f t (Some x) e l m =
       let placed : record { spot = x.spot; level = x.level; couple = couple x.couple } ≡
       record { spot = d.spot; level = level_at d.depth; couple = couple_in (blocks_of_program p) (sites_of p) d.block d.spot } = cc in
       let means : record { block = x.block; sort = x.sort } ≡ record { block = d.block; sort = sort_of d } = cc in
-      let there : known_there (names_known p) d.spot ≡ Some d = all-found (IsHeld (blocks_of_program p) (names_known p)) a.known n.name d k.held f in
+      let there : known_there (names_known p) d.spot ≡ Some d = found_known (IsHeld (blocks_of_program p) (names_known p)) a.known n.name d k.held f in
       record {
         declared = d;
         found = f;
@@ -119,42 +113,42 @@ module _ (p : PProgram) (s : Scopes) (are : AreOf p s) where
         heading =
             λ h c.
             record {
-              spot = all-found IsAtHeading a.known n.name d k.headings f h c;
-              parameters = are.parameters d.spot ∙ parameters-at p d h there c;
+              spot = found_known IsAtHeading a.known n.name d k.headings f h c;
+              parameters = are.parameters d.spot ∙ parameters_of_known p d h there c;
             };
       }
 
-  tells-one : (a : Surroundings) (n : Named) → Carries p a → is_some (declared_as a n) ≡ true → IsSo (IsThere (names_known p)) a n → ScopesTell s a n
-  tells-one a n k h so = decide (declared_as a n) refl h
+  tells_one : (a : Surroundings) (n : Named) → Carries p a → is_some (declared_as a n) ≡ true → IsSo (IsThere (names_known p)) a n → ScopesTell s a n
+  tells_one a n k h so = decide (declared_as a n) refl h
     where
       decide : (o : Option Declared) → declared_as a n ≡ o → is_some o ≡ true → ScopesTell s a n
       decide None e q = absurd (let clash : false ≡ true = q in cc)
       decide (Some d) e q =
-          tells-found a n d k e (so d e) (declaration_of s n.spot) refl (are.declarations n.spot ∙ declared-there p n.spot d (so d e))
-          (are.meanings n.spot ∙ meaning-there p n.spot d (so d e))
+          tells_found a n d k e (so d e) (declaration_of s n.spot) refl (are.declarations n.spot ∙ declared_there p n.spot d (so d e))
+          (are.meanings n.spot ∙ meaning_there p n.spot d (so d e))
 
-  tells-names : (a : Surroundings) (ns : List Named) → Carries p a → places_if (λ (n : Named). not (is_some (declared_as a n))) ns ≡ [] →
+  tells_names : (a : Surroundings) (ns : List Named) → Carries p a → places_if (λ (n : Named). not (is_some (declared_as a n))) ns ≡ [] →
       AllByRecursion (IsSo (IsThere (names_known p)) a) ns → AllByRecursion (ScopesTell s a) ns
-  tells-names a [] k h so = tt
-  tells-names a (n ∷ ns) k h so =
+  tells_names a [] k h so = tt
+  tells_names a (n ∷ ns) k h so =
       let here = if_so (not (is_some (declared_as a n))) n.spot in
       let rest = places_if (λ (n : Named). not (is_some (declared_as a n))) ns in (
-        tells-one a n k (not-unknown (is_some (declared_as a n)) n.spot (none-left here rest h)) so.0,
-        tells-names a ns k (none-right here rest h) so.1,
+        tells_one a n k (not_unknown (is_some (declared_as a n)) n.spot (append_none_left here rest h)) so.0,
+        tells_names a ns k (append_none_right here rest h) so.1,
       )
 
   -- ---- one part
 
-  tells-part : (x : Part) (a : Surroundings) → Carries p a → unknown_in_part x a ≡ [] →
+  tells_part : (x : Part) (a : Surroundings) → Carries p a → unknown_in_part x a ≡ [] →
       AllByRecursion (IsThere (names_known p)) (known_at (blocks_of_program p) (record { part = x; around = a })) → TellsAt s (record { part = x; around = a })
-  tells-part (site.name n) a k u t = tells-names a (names_in (site.name n)) k u (names-so (IsThere (names_known p)) a (names_in (site.name n)) t)
-  tells-part (site.expression e) a k u t =
-      tells-names a (names_in (site.expression e)) k u (names-so (IsThere (names_known p)) a (names_in (site.expression e)) t)
-  tells-part (site.actual e f) a k u t = tt
-  tells-part (site.bound e) a k u t = tt
-  tells-part (site.statement q listed) a k u t =
-      tells-names a (names_in (site.statement q listed)) k u (names-so (IsThere (names_known p)) a (names_in (site.statement q listed)) t)
-  tells-part (site.declaration d later) a k u t = tt
+  tells_part (site.name n) a k u t = tells_names a (names_in (site.name n)) k u (names_so (IsThere (names_known p)) a (names_in (site.name n)) t)
+  tells_part (site.expression e) a k u t =
+      tells_names a (names_in (site.expression e)) k u (names_so (IsThere (names_known p)) a (names_in (site.expression e)) t)
+  tells_part (site.actual e f) a k u t = tt
+  tells_part (site.bound e) a k u t = tt
+  tells_part (site.statement q listed) a k u t =
+      tells_names a (names_in (site.statement q listed)) k u (names_so (IsThere (names_known p)) a (names_in (site.statement q listed)) t)
+  tells_part (site.declaration d later) a k u t = tt
 
 -- ---- all parts
 
@@ -170,7 +164,7 @@ module _ (p : PProgram) where
   knows d ds a begun k o =
       record {
         held = held.knows (blocks_of_program p) (names_known p) d ds a begun k.held o;
-        headings = knows-at (blocks_of_program p) d ds a k.headings;
+        headings = knows_at (blocks_of_program p) d ds a k.headings;
       }
 
   enters : (h : Heading) (s : PStmt) (ds : PDecls) (a : Surroundings) → Carries p (knowing (blocks_of_program p) (tree.procedure h s) ds a) →
@@ -179,21 +173,21 @@ module _ (p : PProgram) where
   enters h s ds a k o =
       record {
         held = held.enters (blocks_of_program p) (names_known p) h s ds a k.held o;
-        headings = enters-at (blocks_of_program p) h (knowing (blocks_of_program p) (tree.procedure h s) ds a) k.headings;
+        headings = enters_at (blocks_of_program p) h (knowing (blocks_of_program p) (tree.procedure h s) ds a) k.headings;
       }
 
-  pub all-pass : IsInOrder p → (s : Scopes) → AreOf p s → AllByRecursion Passes (sites_of p)
-  all-pass o s are =
+  pub all_pass : IsInOrder p → (s : Scopes) → AreOf p s → AllByRecursion Passes (sites_of p)
+  all_pass o s are =
       let blocks = blocks_of_program p in
       let n = named p are.unbroken in
-      all-both (λ (x : Site). (AllByRecursion (IsThere (names_known p)) (known_at blocks x))) (λ (x : Site). (unknown_names x ≡ []) × (declared_twice blocks x ≡ [])) Passes
-      (λ x i r. record { its_names = i; once = r.1; known = r.0 }) (sites_of p) (each-of (IsThere (names_known p)) (known_at blocks) (sites_of p) (each-there p o))
-      (all-both (λ (x : Site). unknown_names x ≡ []) (λ (x : Site). declared_twice blocks x ≡ []) (λ (x : Site). (unknown_names x ≡ []) × (declared_twice blocks x ≡ [])) (λ x u d. (u, d)) (sites_of p)
-      (none-of unknown_names (sites_of p) n.known) (none-of (declared_twice blocks) (sites_of p) n.once))
+      all_both (λ (x : Site). (AllByRecursion (IsThere (names_known p)) (known_at blocks x))) (λ (x : Site). (unknown_names x ≡ []) × (declared_twice blocks x ≡ [])) Passes
+      (λ x i r. record { its_names = i; once = r.1; known = r.0 }) (sites_of p) (each_of (IsThere (names_known p)) (known_at blocks) (sites_of p) (each_there p o))
+      (all_both (λ (x : Site). unknown_names x ≡ []) (λ (x : Site). declared_twice blocks x ≡ []) (λ (x : Site). (unknown_names x ≡ []) × (declared_twice blocks x ≡ [])) (λ x u d. (u, d)) (sites_of p)
+      (none_of unknown_names (sites_of p) n.known) (none_of (declared_twice blocks) (sites_of p) n.once))
 
-pub each-part-is-told : EachPartIsTold
-each-part-is-told p s order are =
-    let pass = all-pass p order s are in
-    all-both (HoldsAt (blocks_of_program p) (Carries p)) (Passes p) (TellsAt s)
-    (λ x k q. tells-part p s are x.part x.around k.around q.known q.its_names) (sites_of p)
-    (all-hold (blocks_of_program p) (Carries p) (Passes p) (begins p) (knows p) (enters p) p (record { held = tt; headings = tt }) pass) pass
+pub each_part_is_told : EachPartIsTold
+each_part_is_told p s order are =
+    let pass = all_pass p order s are in
+    all_both (HoldsAt (blocks_of_program p) (Carries p)) (Passes p) (TellsAt s)
+    (λ x k q. tells_part p s are x.part x.around k.around q.known q.its_names) (sites_of p)
+    (all_hold (blocks_of_program p) (Carries p) (Passes p) (begins p) (knows p) (enters p) p (record { held = tt; headings = tt }) pass) pass

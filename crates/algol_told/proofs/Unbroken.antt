@@ -3,29 +3,25 @@ use Rattle.std.proofs.Common.{◌≡◌, Bool, true, false, List, [], ◌∷◌,
 use Rattle.std.specs.Prelude.{not}
 use Rattle.std.specs.List.{flat_map}
 use Rattle.algol_tree.specs.declared.token.Spot.{Spot}
-use Rattle.algol_tree.specs.declared.refusal.Code.{Code}
 use Rattle.algol_tree.specs.declared.refusal.Code.TheVariants as codes
 use Rattle.algol_tree.specs.declared.refusal.Fault.{Fault}
 use Rattle.algol_tree.specs.Plain.{PProgram}
 use Rattle.algol_tree.specs.Blocks.{blocks_of_program}
 use Rattle.algol_tree.specs.Names.{cells_beyond, deep_actuals, deep_blocks, declared_twice, if_so, long_segments, procedures_beyond, unknown_names}
 use Rattle.algol_tree.specs.Accepted.{broken, scope_faults, sites_of}
-use Rattle.algol_told.proofs.Lists.{none-left, none-right}
+use Rattle.algol_scope.proofs.Scoped.{unbroken}
+use Rattle.b67_list.proofs.Lists.{append_none_left, append_none_right}
 
-pub not-unknown : (b : Bool) (spot : Spot) → if_so (not b) spot ≡ [] → b ≡ true
-not-unknown true spot h = refl
-not-unknown false spot h = absurd (let clash : spot ∷ [] ≡ [] = h in cc)
-
-unbroken : (code : Code) (spots : List Spot) → broken code spots ≡ [] → spots ≡ []
-unbroken code [] h = refl
-unbroken code (s ∷ spots) h = absurd (let clash : record { spot = s; code = code } ∷ broken code spots ≡ [] = h in cc)
+pub not_unknown : (b : Bool) (spot : Spot) → if_so (not b) spot ≡ [] → b ≡ true
+not_unknown true spot h = refl
+not_unknown false spot h = absurd (let clash : spot ∷ [] ≡ [] = h in cc)
 
 -- the first two of six lists, of which nothing comes together
-first-two : (a b c d e f : List Fault) → a ++ b ++ c ++ d ++ e ++ f ≡ [] → (a ≡ []) × (b ≡ [])
-first-two a b c d e f h =
-    let five = none-left (a ++ b ++ c ++ d ++ e) f h in
-    let two = none-left (a ++ b) c (none-left (a ++ b ++ c) d (none-left (a ++ b ++ c ++ d) e five)) in
-    (none-left a b two, none-right a b two)
+first_two : (a b c d e f : List Fault) → a ++ b ++ c ++ d ++ e ++ f ≡ [] → (a ≡ []) × (b ≡ [])
+first_two a b c d e f h =
+    let five = append_none_left (a ++ b ++ c ++ d ++ e) f h in
+    let two = append_none_left (a ++ b) c (append_none_left (a ++ b ++ c) d (append_none_left (a ++ b ++ c ++ d) e five)) in
+    (append_none_left a b two, append_none_right a b two)
 
 pub record IsNamed (p : PProgram) : Type 0 where
   pub known : flat_map unknown_names (sites_of p) ≡ []
@@ -37,7 +33,7 @@ named p h =
     let blocks = blocks_of_program p in
     let ss = sites_of p in
     let two =
-    first-two (broken codes.UnknownName (flat_map unknown_names ss)) (broken codes.DeclaredTwice (flat_map (declared_twice blocks) ss))
+    first_two (broken codes.UnknownName (flat_map unknown_names ss)) (broken codes.DeclaredTwice (flat_map (declared_twice blocks) ss))
     (broken codes.TooManyLevels (deep_blocks blocks ++ flat_map deep_actuals ss)) (broken codes.TooManyCells (cells_beyond blocks ss))
     (broken codes.TooManyProcedures (procedures_beyond blocks)) (broken codes.SegmentTooLong (long_segments p ss)) h in
     record {

@@ -2,12 +2,12 @@
 use Rattle.std.proofs.Common.{◌≡◌, refl, ℕ, ◌+◌, ◌<◌, List, [], ◌∷◌, ◌++◌, length, map, reverse, take, get_or, ap, sym, ◌∙◌}
 use Rattle.std.proofs.lemmas.List.{map-append, reverse-append, take_more}
 
-map-reverse : {A B : Type 0} (f : A → B) (xs : List A) → map f (reverse xs) ≡ reverse (map f xs)
-map-reverse f [] = refl
-map-reverse f (x ∷ xs) =
+map_reverse : {A B : Type 0} (f : A → B) (xs : List A) → map f (reverse xs) ≡ reverse (map f xs)
+map_reverse f [] = refl
+map_reverse f (x ∷ xs) =
     ap (map f) (reverse-append (x ∷ []) xs)
     ∙ map-append f (reverse xs) (x ∷ [])
-    ∙ ap (λ ys. ys ++ f x ∷ []) (map-reverse f xs)
+    ∙ ap (λ ys. ys ++ f x ∷ []) (map_reverse f xs)
     ∙ sym (reverse-append (f x ∷ []) (map f xs))
 
 -- one copy more
@@ -23,6 +23,6 @@ one_more f copies from i x d less so_far same =
 
 -- stacks of them
 pub stacked : {A B : Type 0} (f : A → B) (xs ys : List A) → map f xs ≡ map f ys → map f (reverse xs) ≡ map f (reverse ys)
-stacked f xs ys same = map-reverse f xs ∙ ap reverse same ∙ sym (map-reverse f ys)
+stacked f xs ys same = map_reverse f xs ∙ ap reverse same ∙ sym (map_reverse f ys)
 
 pub ruleset copies_laws = (stacked)

@@ -2,6 +2,7 @@
 use Rattle.std.proofs.Common.{◌≡◌, refl, ℕ, Bool, true, false, List, [], ◌∷◌, ap, sym, ◌∙◌, Option, Some, None}
 use Rattle.b67_num.specs.declared.FaultKind.TheVariants as fault
 use Rattle.b67_list.specs.Numbered.{numbered}
+use Rattle.b67_list.proofs.Numbered.{numbered_same}
 use Rattle.algol_tree.specs.Scopes.{Scopes}
 use Rattle.algol_meaning.specs.World as world
 use Rattle.algol_meaning.specs.World.{World, Part, Process, or_no_process, with_process}
@@ -13,7 +14,6 @@ use Rattle.algol_meaning.specs.Instances.{leave}
 use Rattle.algol_world.specs.Going.{action_chosen}
 use Rattle.algol_world.specs.Leaving.{left_todo, leaving_with, ending, failing, innermost_of, ended_by, leaves_of, leaves_by}
 use Rattle.algol_world.specs.declared.exiting.Innermost.{Innermost}
-use Rattle.algol_instances.proofs.Numbering.{set_same}
 use Rattle.algol_world.proofs.Releasing.{caused_stays}
 
 abbrev pub evaluates_in : Option Innermost → Bool
@@ -44,7 +44,7 @@ module _ (sc : Scopes) (w : World) (p : ℕ) (a : Answer) (x : Innermost) where
           let ev : is_evaluation part.purpose ≡ true = sym (ap evaluates_in s) ∙ t in
           let same : record q { todo = part ∷ [] } ≡ q = ap (λ (parts : List Part). record q { todo = parts }) (sym d) in
           let at : numbered w.processes p ≡ Some (record q { todo = part ∷ [] }) = e ∙ ap Some (sym same) in
-          rw ev (ap (λ (qs : List Process). action_chosen actions.Leave (record w { processes = qs })) (set_same w.processes p (record q { todo = part ∷ [] }) at))
+          rw ev (ap (λ (qs : List Process). action_chosen actions.Leave (record w { processes = qs })) (numbered_same w.processes p (record q { todo = part ∷ [] }) at))
       under (part ∷ next ∷ parts) d s = let ev : is_evaluation part.purpose ≡ true = sym (ap evaluates_in s) ∙ t in rw ev refl
 
   depending_at :

@@ -17,5 +17,3 @@ pub first_part :
 first_part sc [] x e = cc
 first_part sc (y ∷ []) x e = let p : x ≡ y = cc in ap (λ (z : Part). innermost_of (part sc z ∷ [])) p
 first_part sc (y ∷ z ∷ parts) x e = let p : x ≡ y = cc in ap (λ (u : Part). innermost_of (part sc u ∷ part sc z ∷ map (part sc) parts)) p
-
-pub ruleset innermosts = (no_innermost, first_part)

@@ -9,6 +9,7 @@ use Rattle.b67_deeds.specs.Events.{joined, left_by}
 use Rattle.algol_meaning.specs.Value.{Reference}
 use Rattle.algol_meaning.specs.World.{World, Instance, Process, waits_any, process_at, or_no_process, with_process}
 use Rattle.algol_meaning.specs.Events.{same_reference, reference_is_among, first_that, change_event, joined_all, list_in, forgotten, woken_by, withdrawn}
+use Rattle.algol_meaning.proofs.Cited.{joined_processes}
 use Rattle.algol_cells.specs.SeenCell as seen
 use Rattle.algol_cells.specs.declared.cell.Reference as code
 use Rattle.algol_instances.specs.SeenInstance.{holding, place_of_number}
@@ -67,18 +68,6 @@ numbered_past xs f (suc j) k e past =
     slice_get-map f xs j ∙ ap (option_map f) (slice_get_past xs j more)
 
 -- ---- joining
-
-pub joined_processes : (w : World) (p : ℕ) (seen rs : List Reference) → (joined_all w p seen rs).processes ≡ w.processes
-joined_processes w p seen [] = refl
-joined_processes w p seen (r ∷ rs) =
-    by (reference_is_among seen r) (joined_processes w p (r ∷ seen) rs) (joined_processes (change_event w r (Some (joined p))) p (r ∷ seen) rs)
-  where
-    by :
-        (b : Bool) → (joined_all w p (r ∷ seen) rs).processes ≡ w.processes
-        → (joined_all (change_event w r (Some (joined p))) p (r ∷ seen) rs).processes ≡ w.processes
-        → (if b then joined_all w p (r ∷ seen) rs else (joined_all (change_event w r (Some (joined p))) p (r ∷ seen) rs)).processes ≡ w.processes
-    by true f g = f
-    by false f g = g
 
 -- it waits where it stands
 pub waits_so :

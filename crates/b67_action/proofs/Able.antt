@@ -6,6 +6,7 @@ use Rattle.std.proofs.lemmas.List.Elements.{All-head, All-tail}
 use Rattle.std.proofs.Math.Decide.{ℕ_discrete}
 use Rattle.std.proofs.lemmas.Bool.{or_cases, or_parts, eqb-true, eq-eqb, le-leb, leb-true}
 use Rattle.b67_list.specs.Numbered.{numbered, set_numbered}
+use Rattle.b67_list.proofs.Truths.{not_both}
 use Rattle.b67_word.specs.declared.Place.{Place}
 use Rattle.b67_segment.specs.declared.code.Code.{Code}
 use Rattle.b67_deeds.specs.declared.EventAct.TheVariants as act
@@ -21,7 +22,7 @@ use Rattle.b67_table.specs.Valid.{IsValid, AreEvents, waits}
 use Rattle.b67_table.proofs.Stacks.{get_numbered_other}
 use Rattle.b67_table.proofs.Lists.{numbered_set}
 use Rattle.b67_table.proofs.States.{able_all}
-use Rattle.b67_table.proofs.EventKept.{or_left, not_both, length_states, same_state, live_of, within_of, awaits_waits}
+use Rattle.b67_table.proofs.EventKept.{or_left, length_states, same_state, live_of, within_of, awaits_waits}
 use Rattle.b67_table.proofs.Waking.{able_live}
 use Rattle.b67_action.specs.Able.{number_times, one_if, able_in, newly, AbleAfter}
 

@@ -1,12 +1,12 @@
 -- What one process performs, among others.
 use Rattle.std.proofs.Common.{◌≡◌, sym, ap, subst, ◌∙◌, ℕ, ◌-◌, List, get_or, set, Option, Some, Result, Ok, Err, OnErr}
 use Rattle.b67_list.specs.Numbered.{numbered, set_numbered}
+use Rattle.b67_list.proofs.Numbered.{numbered_same}
 use Rattle.b67_control.specs.declared.Registers.{Registers}
 use Rattle.b67_ops.specs.declared.Operator.{Operator}
 use Rattle.b67_store.specs.Store.{Stacks, Rows}
 use Rattle.b67_table.specs.Image.{Image}
 use Rattle.b67_table.specs.Program.{Program}
-use Rattle.b67_table.proofs.Lists.{numbered_same}
 use Rattle.b67_operators.specs.Leaves.{IsLinkedIn}
 use Rattle.b67_operators.proofs.Leaves.{here, set_here, in_process}
 use Rattle.b67_reach.specs.declared.Stop.{Stop}

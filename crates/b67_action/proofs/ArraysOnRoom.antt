@@ -15,7 +15,7 @@ use Rattle.b67_store.specs.Store.{Stacks, Rows, stack_at, word_at, with_stack, w
 use Rattle.b67_table.specs.declared.Cell.{Cell}
 use Rattle.b67_table.specs.declared.Reached.{Reached}
 use Rattle.b67_table.specs.declared.InterruptKind.{InterruptKind}
-use Rattle.b67_table.specs.Arrays.{as_indexed, is_array_descriptor, array_in, array_by, array_of, index_in, index_or_fault, Subscripted, subscripted, index_program as index}
+use Rattle.b67_table.specs.Arrays.{as_indexed, is_array_descriptor, array_in, array_by, array_of, index_in, index_or_fault, subscripted, index_program as index}
 use Rattle.b67_table.specs.Chains.{place}
 use Rattle.b67_table.specs.Image.{with_registers, with_stacks}
 use Rattle.b67_table.specs.Look.{look_seen, found, ◌>->◌, valid}
@@ -102,9 +102,6 @@ module _ (r : Registers) (room : List Word) (is : IsRoom r room) where
 
   module _ (mother : Bool) (x y : Word) (enough : floor r + 2 ≤ r.s) (top : slice_get room (r.s - 1) ≡ Some x) (below : slice_get room (r.s - 2) ≡ Some y) (z : ℤ)
       (whole : as_whole y ≡ Some z) (d : Descriptor) (array : IsArrayOf r room mother x d) (n : ℕ) (index : index_in z d.length ≡ Some n) where
-    abbrev pair : Subscripted
-    pair = record { array = d; subscript = z }
-
     pub subscripts_on : (st : Stacks) → stack_at st r.stack ≡ Some (take r.s room) → Subscripts st r mother d n
     subscripts_on st there = record {
       subscript = z;

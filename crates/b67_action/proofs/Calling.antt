@@ -4,7 +4,6 @@ use Rattle.b67_control.specs.declared.Registers.{Registers}
 use Rattle.b67_control.specs.declared.Mscw.{Mscw}
 use Rattle.b67_ops.specs.declared.intrinsic.Intrinsic.{Intrinsic}
 use Rattle.b67_segment.specs.declared.code.Code.{Code}
-use Rattle.b67_store.specs.Store.{row_at}
 use Rattle.b67_table.specs.Image.{Image}
 use Rattle.b67_table.specs.Intrinsics.{intrinsic_row, select}
 use Rattle.b67_table.specs.Look.{look_seen}
@@ -20,7 +19,7 @@ use Rattle.b67_operators.proofs.Choices.{enters_what_it_calls}
 use Rattle.b67_operators.proofs.Leaves.{in_process}
 use Rattle.b67_intrinsics.specs.declared.hindrance.Hindrance.{Hindrance}
 use Rattle.b67_intrinsics.specs.declared.hindrance.Hindrance.TheVariants.{Stopped, NoMemory}
-use Rattle.b67_intrinsics.specs.Called.{called_in, Tries, ImageIsLeft}
+use Rattle.b67_intrinsics.specs.Called.{called_in, Tries}
 use Rattle.b67_reach.specs.declared.Stop.{Stop}
 use Rattle.b67_reach.specs.Answers.{looked, ProgramActs}
 use Rattle.b67_reach.proofs.Looking.{tells_look, asked_on, acts_stop}
@@ -32,12 +31,6 @@ use Rattle.b67_action.specs.Among.{entry_program}
 pub tries_plainly : (p : ℕ) (program : Program) (old new : Image) (res : Result (Unit {0}) Stop) → ProgramActs p program old new res → Tries p program old new (hindered res)
 tries_plainly p program old new (Ok u) x = x
 tries_plainly p program old new (Err stop) x = x
-
-same_left : (old new : Image) → new ≡ old → ImageIsLeft old new
-same_left old new e = record {
-  rows = λ n. ap (λ (z : Image). row_at z.rows n) e;
-  others = e ∙ ap (λ (z : Image). record old { rows = z.rows }) (sym e);
-}
 
 tries_as : (p : ℕ) (a b : Program) (img new : Image) (res : Result (Unit {0}) Hindrance) → does p a img ≡ does p b img → Tries p b img new res → Tries p a img new res
 tries_as p a b img new (Ok u) e x = record { outcome = ap (limited (stack_length p)) e ∙ x.outcome; stays = x.stays }

@@ -19,7 +19,7 @@ use Rattle.b67_deeds.specs.Deeds.{Next, goes, waits as awaits, procures}
 use Rattle.b67_events.specs.Events.{deed_at}
 use Rattle.b67_store.specs.Store.{stack_limit}
 use Rattle.b67_table.specs.declared.Private.{Private as Part}
-use Rattle.b67_table.specs.Image.{Image, private_of, with_private, with_effect, is_able, is_live}
+use Rattle.b67_table.specs.Image.{Image, private_of, with_private, with_effect, is_able}
 use Rattle.b67_table.specs.Outcome.{limited}
 use Rattle.b67_table.specs.Outcome as outcomes
 use Rattle.b67_table.specs.Private.{floor}
@@ -33,11 +33,13 @@ use Rattle.b67_table.specs.Writes.{Write, write_made, waiting}
 use Rattle.b67_table.specs.Writes as writes
 use Rattle.b67_table.proofs.EventKept.{length_states, length_again}
 use Rattle.b67_table.proofs.Lists.{numbered_within, numbered_from}
+use Rattle.b67_table.proofs.Waking.{able_live}
 use Rattle.b67_intrinsics.specs.declared.hindrance.Hindrance.{Hindrance}
 use Rattle.b67_intrinsics.specs.declared.hindrance.Hindrance.TheVariants.{Stopped, NoMemory}
 use Rattle.b67_reach.specs.declared.Stop.{Stop}
 use Rattle.b67_reach.specs.declared.Stop.TheVariants.{Interrupt, Fault, StackLimit}
 use Rattle.b67_reach.specs.Answers.{ProgramActs}
+use Rattle.b67_private.proofs.Stepping.{fetched_of}
 use Rattle.b67_action.specs.declared.rows.Row.{Row}
 use Rattle.b67_action.specs.declared.rows.Row.TheVariants as ours
 use Rattle.b67_action.specs.Acting.{row_effect, ComesOrNot, CallsMaker}
@@ -85,18 +87,6 @@ module _ (code : Code) (img : Image) (p : ℕ) (r : Registers) (op : Operator) (
 
 -- ---- the table
 
-live_of : (o : Option ProcessState) → is_able o ≡ true → is_live o ≡ true
-live_of None e = cc
-live_of (Some states.Able) e = refl
-live_of (Some (states.WaitsFor at)) e = cc
-live_of (Some states.WaitsAny) e = cc
-live_of (Some (states.Procures at)) e = cc
-live_of (Some states.Ended) e = cc
-
-good_is : (o : Result (Operator × ℕ) BadCode) (f : Operator × ℕ) → if_good o ≡ Some f → o ≡ Ok f
-good_is (Ok g) f e = let same : g ≡ f = cc in ap Ok same
-good_is (Err bad) f e = cc
-
 bad_is : (o : Result (Operator × ℕ) BadCode) → if_good o ≡ None → (code : Code) (img : Image) (p : ℕ) (r : Registers) → by_operator code img p r o ≡ interrupts bad_code
 bad_is (Ok g) e code img p r = cc
 bad_is (Err bad) e code img p r = refl
@@ -105,11 +95,11 @@ module _ (code : Code) (img : Image) (p : ℕ) (r : Registers) (able : is_able (
   raw_is : raw code img p ≡ by_operator code img p r (operator_at code r)
   unfolding raw
   raw_is =
-      ap (λ (b : Bool). cond b (by_registers code img p (numbered img.regs p)) (interrupts bad_code)) (live_of (numbered img.states p) able)
+      ap (λ (b : Bool). cond b (by_registers code img p (numbered img.regs p)) (interrupts bad_code)) (able_live (numbered img.states p) able)
       ∙ ap (by_registers code img p) has
 
   pub operator_is : (f : Operator × ℕ) → found code r.segment r.ll r.place ≡ Some f → operator_at code r ≡ Ok f
-  operator_is f e = good_is (operator_at code r) f e
+  operator_is f e = fetched_of (operator_at code r) f e
 
   pub table_is : (f : Operator × ℕ) → found code r.segment r.ll r.place ≡ Some f → table code img p ≡ limited (stack_length p) (by_row (row f.0 r.place) code img p r f.1)
   unfolding table

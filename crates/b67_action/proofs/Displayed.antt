@@ -10,8 +10,9 @@ use Rattle.b67_segment.specs.declared.code.Code.{Code}
 use Rattle.b67_table.specs.Chains.{place}
 use Rattle.b67_table.specs.Image.{Image, is_able}
 use Rattle.b67_table.specs.Valid.{IsValid, IsDisplay}
+use Rattle.b67_table.proofs.Waking.{able_live}
 use Rattle.b67_display.specs.Shown.{IsShown}
-use Rattle.b67_action.proofs.Ready.{live_of, if_some}
+use Rattle.b67_action.proofs.Ready.{if_some}
 
 module _ (level : ℕ) (d : List (Option Place)) (k : IsDisplay level d) where
   abbrev named : List (Option Place)
@@ -42,4 +43,4 @@ module _ (level : ℕ) (d : List (Option Place)) (k : IsDisplay level d) where
 pub shown_in : (code : Code) (img : Image) (p : ℕ) (r : Registers) → IsValid code img → is_able (numbered img.states p) ≡ true → numbered img.regs p ≡ Some r
     → IfSome (numbered img.regs p) (λ q. IsShown q.ll q.display)
 shown_in code img p r v able has =
-    if_some (λ q. IsShown q.ll q.display) (numbered img.regs p) r has (shown_of r.ll r.display (v.processes p r (live_of (numbered img.states p) able) has).display)
+    if_some (λ q. IsShown q.ll q.display) (numbered img.regs p) r has (shown_of r.ll r.display (v.processes p r (able_live (numbered img.states p) able) has).display)

@@ -12,6 +12,7 @@ use Rattle.b67_table.specs.Outcome.{Outcome, gives, limited}
 use Rattle.b67_table.specs.Rows.{row}
 use Rattle.b67_table.specs.Table.{table, operator_at, stack_length}
 use Rattle.b67_table.specs.Valid.{IsValid}
+use Rattle.b67_table.proofs.Waking.{able_live}
 use Rattle.b67_letters.specs.Letters.{operator_letter, fetched_letter, registers_letter, letter_by, letter}
 use Rattle.b67_linkage.proofs.Linked.{live_are_linked}
 use Rattle.b67_operators.specs.Leaves.{IsLinkedIn}
@@ -31,7 +32,6 @@ use Rattle.b67_action.specs.Rows.{IsTableRow}
 use Rattle.b67_action.proofs.Coming.{table_row, operator_is}
 use Rattle.b67_action.proofs.Kept.{stays_valid}
 use Rattle.b67_action.proofs.MakeAble.{performed_able}
-use Rattle.b67_action.proofs.Ready.{live_of}
 use Rattle.b67_action.proofs.Released.{performed_releases}
 
 -- where a row is made ready, an operator stands that has it
@@ -62,7 +62,7 @@ letter_by_row code img new p r op next w has stands is t = letter_of_operator co
 pub linked_in : (code : Code) (img : Image) (p : ℕ) (r : Registers) → IsValid code img → is_able (numbered img.states p) ≡ true → numbered img.regs p ≡ Some r
     → IsLinkedIn img.stacks img.rows (numbered img.regs p)
 linked_in code img p r v able has =
-    subst (λ (o : Option Registers). IsLinkedIn img.stacks img.rows o) (sym has) (live_are_linked code img p r v (live_of (numbered img.states p) able) has)
+    subst (λ (o : Option Registers). IsLinkedIn img.stacks img.rows o) (sym has) (live_are_linked code img p r v (able_live (numbered img.states p) able) has)
 
 -- an entry of what is no intrinsic releases nobody
 pub enters_nobody : (img : Image) (o : Option Registers) → EntersPlainly img.stacks o → EnterReleases img o [] []

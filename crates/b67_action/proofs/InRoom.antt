@@ -1,17 +1,16 @@
 -- A private operator in the room of a stack: what it does to all the words there, it does to the private part.
 use Rattle.std.specs.Prelude.{◌⊎◌, ◌^◌, ◌<◌, ◌≤◌}
-use Rattle.std.proofs.Common.{◌≡◌, refl, sym, ap, subst, ◌∙◌, ℕ, ◌+◌, List, ◌++◌, length, take, drop, reverse, Option, Some, None, IsSome, Ok, Err, false, take-append-drop, ⊎_elim, inl, inr, arith}
+use Rattle.std.proofs.Common.{◌≡◌, refl, sym, ap, subst, ◌∙◌, ℕ, List, ◌++◌, length, take, drop, reverse, Option, Some, None, IsSome, Ok, Err, false, take-append-drop, ⊎_elim, inl, inr, arith}
 use Rattle.std.proofs.lemmas.List.{length-drop, length-reverse, reverse-append, reverse-reverse}
 use Rattle.b67_word.specs.Word.{Word}
 use Rattle.b67_control.specs.declared.Registers.{Registers}
 use Rattle.b67_ops.specs.declared.Operator.{Operator}
 use Rattle.b67_ops.specs.Spelling.{Fits}
 use Rattle.b67_store.specs.Store.{Stacks, Rows, IsRoom, stack_at, words_of, words_or, with_stack, with_cut, stack_limit}
+use Rattle.b67_store.proofs.Cited.{put_there}
 use Rattle.b67_table.specs.declared.Private.{Private}
 use Rattle.b67_table.specs.Outcome.{Outcome, gives, faults, interrupts, limit}
 use Rattle.b67_table.specs.Private.{floor}
-use Rattle.b67_table.proofs.Lists.{set_there}
-use Rattle.b67_table.proofs.Stacks.{set_set_here}
 use Rattle.b67_linkage.specs.Held.{IsLinked}
 use Rattle.b67_private.specs.declared.Stop.{Stop as PartStop}
 use Rattle.b67_private.specs.declared.Stop.TheVariants as parts
@@ -20,6 +19,7 @@ use Rattle.b67_private.specs.Performing.{stopped as part_stopped}
 use Rattle.b67_private.proofs.Deeper.{is_short, deep, whole_is_enough}
 use Rattle.b67_private.proofs.Stretching.{deeper, own_outcome_same, from_deeper}
 use Rattle.b67_reach.specs.Images.{own_of_image}
+use Rattle.b67_list.proofs.Lists.{set_set_here}
 use Rattle.b67_action.specs.Own.{part_of_process, stop_by, DoesOwn}
 use Rattle.b67_action.proofs.OwnOutcome.{own_stops, own_goes, own_left}
 use Rattle.b67_action.proofs.OwnWords.{own_words}
@@ -33,14 +33,6 @@ part_in_is st r least room size k = ap (λ (ws : List Word). part_with r (revers
 pub place_in : (s least size : ℕ) → (s < least) ⊎ (least ≡ stack_limit) → least ≤ size → size ≤ stack_limit → (s < size) ⊎ (size ≡ stack_limit)
 place_in s least size place long few =
     ⊎_elim (λ (p : s < least). inl (omega (arith, p, long))) (λ (e : least ≡ stack_limit). inr (omega (arith, e, long, few))) place
-
--- and where all of its words have been copied into a room
-pub copied_is : (st : Stacks) (r : Registers) (words room : List Word) → r.s ≡ length (words_of st r.stack) → words ≡ reverse (words_of st r.stack) → reverse (take (0 + length words) room) ≡ words
-    → part_in r room ≡ part_with r (reverse (words_of st r.stack))
-copied_is st r words room size copy e =
-    let all = words_of st r.stack in
-    let s : r.s ≡ 0 + length words = omega (arith, size, ap length copy, length-reverse all) in
-    ap (λ (ws : List Word). part_with r ws) (ap (λ (n : ℕ). reverse (take n room)) s ∙ e ∙ copy)
 
 module _ (st lent : Stacks) (n : ℕ) (room : List Word) (there : IsSome (stack_at st n)) (is : lent ≡ with_stack st n room) where
   pub still_open : IsSome (stack_at lent n)
@@ -114,6 +106,6 @@ module _ (st : Stacks) (rows : Rows) (r : Registers) (linked : IsLinked st rows 
         f
         ∙ ap (λ (x : Private). with_stack st r.stack (reverse x.words)) (same ∙ part_in_is st r least room linked.size lent)
         ∙ ap (λ (z : List Word). with_stack st r.stack z) (reverse-reverse ws)
-        ∙ set_there st r.stack ws (words_there (stack_at st r.stack) linked.opened) in
+        ∙ put_there st r.stack ws (words_there (stack_at st r.stack) linked.opened) in
         own_stops op next st rows r stop (own_of_image stacks more b.regs) (stop_below (below st r) (own_outcome op next (part_of_process st r)) stop (sym outcome_is ∙ e))
         (ap (λ (z : Stacks). own_of_image z more b.regs) back ∙ ap (λ (z : Rows). own_of_image st z b.regs) g ∙ ap (λ (x : Private). own_of_image st rows x.regs) same)

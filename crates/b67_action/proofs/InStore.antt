@@ -2,18 +2,20 @@
 use Rattle.std.specs.Prelude.{is_ok}
 use Rattle.std.proofs.Common.{◌≡◌, refl, sym, ap, subst, ◌∙◌, ℕ, ◌≤◌, true, false, List, [], length, take, Some, Result, Ok, Err}
 use Rattle.b67_list.specs.Numbered.{numbered}
+use Rattle.b67_list.proofs.Numbered.{numbered_same, numbered_twice}
 use Rattle.b67_word.specs.Word.{Word}
 use Rattle.b67_control.specs.declared.Registers.{Registers}
 use Rattle.b67_ops.specs.declared.Operator.{Operator}
 use Rattle.b67_segment.specs.declared.code.Code.{Code}
 use Rattle.b67_segment.specs.Decoded.{found}
-use Rattle.b67_store.specs.Store.{Stacks, Rows, words_of, with_stack, row_limit}
+use Rattle.b67_store.specs.Store.{Stacks, Rows, with_stack, row_limit}
 use Rattle.b67_table.specs.Image.{Image}
 use Rattle.b67_table.specs.Program.{Program}
 use Rattle.b67_table.specs.Rows.{row, acts}
 use Rattle.b67_table.specs.Valid.{IsValid}
 use Rattle.b67_table.proofs.FirstValid.{counted}
-use Rattle.b67_table.proofs.Lists.{numbered_set, numbered_same, numbered_within}
+use Rattle.b67_table.proofs.Lists.{numbered_set, numbered_within}
+use Rattle.b67_table.proofs.Waking.{able_live}
 use Rattle.b67_linkage.specs.Held.{IsLinked}
 use Rattle.b67_linkage.proofs.Linked.{live_are_linked}
 use Rattle.b67_deeds.specs.declared.Letter.{Letter}
@@ -29,11 +31,10 @@ use Rattle.b67_reach.specs.Images.{Own, own_of_image, with_own}
 use Rattle.b67_reach.proofs.Looking.{acts_by}
 use Rattle.b67_action.specs.Onward.{HasGone}
 use Rattle.b67_action.specs.Reaching.{ProcessIsIn}
-use Rattle.b67_action.specs.Running.{IsLent, given_back, ActionGoesOn}
+use Rattle.b67_action.specs.Running.{given_back, ActionGoesOn}
 use Rattle.b67_action.proofs.Coming.{comes_by, operator_is}
 use Rattle.b67_action.proofs.Gone.{letter_by_row, gone}
-use Rattle.b67_action.proofs.Lent.{not_plain, numbered_twice}
-use Rattle.b67_action.proofs.Ready.{live_of}
+use Rattle.b67_action.proofs.Lent.{not_plain}
 
 pub own_twice : (img : Image) (p : ℕ) (a b : Own) → with_own b p (with_own a p img) ≡ with_own b p img
 own_twice img p a b =
@@ -53,15 +54,7 @@ module _ (code : Code) (img : Image) (p : ℕ) (stacks : Stacks) (rows : Rows) (
   pub linked : IsLinked stacks rows r
   linked =
       subst (λ (z : Rows). IsLinked stacks z r) h.rows_are
-      (subst (λ (z : Stacks). IsLinked z img.rows r) h.stacks_are (live_are_linked code img p r h.valid (live_of (numbered img.states p) h.able) h.has))
-
-  pub lent_of : (room : List Word) → take (length (words_of stacks r.stack)) room ≡ words_of stacks r.stack → IsLent code img p r room
-  lent_of room e = record {
-    valid = h.valid;
-    able = h.able;
-    has = h.has;
-    words = ap (λ (z : Stacks). words_of z r.stack) h.stacks_are ∙ sym (ap (λ (n : ℕ). take n room) linked.size ∙ e);
-  }
+      (subst (λ (z : Stacks). IsLinked z img.rows r) h.stacks_are (live_are_linked code img p r h.valid (able_live (numbered img.states p) h.able) h.has))
 
   pub given_of : (q : Registers) (left : List Word) (more : Stacks) (others : Rows) → q.stack ≡ r.stack → more ≡ with_stack stacks r.stack (take q.s left) → others ≡ rows
       → given_back q left p img ≡ with_own (own_of_image more others q) p img

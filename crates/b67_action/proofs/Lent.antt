@@ -1,8 +1,11 @@
 -- What is done on the lent room of a process's own stack, in the image that it is given back to.
 use Rattle.std.specs.Prelude.{reverse, ◌&&◌}
-use Rattle.std.proofs.Common.{◌≡◌, refl, sym, ap, subst, ◌∙◌, ℕ, zero, suc, ◌<◌, ◌≤◌, Bool, true, false, List, [], ◌++◌, length, take, Option, Some, None, is_some, Result, Ok, ⊎_elim, inl, inr, arith}
+use Rattle.std.proofs.Common.{◌≡◌, refl, sym, ap, subst, ◌∙◌, ℕ, ◌<◌, ◌≤◌, Bool, true, false, List, [], ◌++◌, length, take, Option, Some, None, is_some, Result, Ok, ⊎_elim, inl, inr, arith}
 use Rattle.std.proofs.lemmas.List.{reverse-append, reverse-reverse}
 use Rattle.b67_list.specs.Numbered.{numbered, set_numbered}
+use Rattle.b67_list.proofs.Lists.{set_set_here}
+use Rattle.b67_list.proofs.Numbered.{numbered_same, numbered_twice}
+use Rattle.b67_list.proofs.Truths.{and_first}
 use Rattle.b67_word.specs.Word.{Word}
 use Rattle.b67_control.specs.declared.Registers.{Registers}
 use Rattle.b67_ops.specs.declared.BadCode.{BadCode}
@@ -10,6 +13,7 @@ use Rattle.b67_ops.specs.declared.Operator.{Operator}
 use Rattle.b67_segment.specs.declared.code.Code.{Code}
 use Rattle.b67_segment.specs.Decoded.{found}
 use Rattle.b67_store.specs.Store.{Stacks, stack_at, words_of, words_or, with_stack, stack_limit}
+use Rattle.b67_store.proofs.Cited.{put_there}
 use Rattle.b67_table.specs.declared.Private.{Private}
 use Rattle.b67_table.specs.declared.ProcessState.{ProcessState}
 use Rattle.b67_table.specs.Image.{Image, with_private, private_of, is_able, is_live}
@@ -24,10 +28,11 @@ use Rattle.b67_table.specs.Valid.{IsProcess, IsValid}
 use Rattle.b67_table.proofs.AllValid.{operators_keep_valid}
 use Rattle.b67_table.proofs.FirstValid.{valid_stands, counted}
 use Rattle.b67_table.proofs.Limit.{limit_comes_last}
-use Rattle.b67_table.proofs.Lists.{numbered_set, numbered_same, numbered_within, set_there}
+use Rattle.b67_table.proofs.Lists.{numbered_set, numbered_within}
 use Rattle.b67_table.proofs.OwnValid.{opened}
 use Rattle.b67_table.proofs.Privacy.{private_is_private}
-use Rattle.b67_table.proofs.Stacks.{set_here, set_set_here}
+use Rattle.b67_table.proofs.Stacks.{set_here}
+use Rattle.b67_table.proofs.Waking.{able_live}
 use Rattle.b67_deeds.specs.declared.Letter.{Letter}
 use Rattle.b67_operators.specs.Leaves.{program_in}
 use Rattle.b67_operators.proofs.Leaves.{in_process}
@@ -50,17 +55,13 @@ use Rattle.b67_action.specs.Onward.{HasGone}
 use Rattle.b67_action.specs.Running.{IsLent, given_back, IsStretchOf, ActionGoesOn, HasPlace, PlainStep}
 use Rattle.b67_action.proofs.Coming.{comes_by, operator_is}
 use Rattle.b67_action.proofs.Gone.{letter_by_row, gone}
-use Rattle.b67_action.proofs.Ready.{live_of, registers_there}
+use Rattle.b67_action.proofs.Ready.{registers_there}
 
 -- ---- plain operators keep an image valid
 
-both : (a b : Bool) → (a && b) ≡ true → a ≡ true
-both true b e = refl
-both false b e = cc
-
-private_of_plain : (code : Code) (img : Image) (p : ℕ) → plain code img p ≡ true → private_next code img p ≡ true
+pub private_of_plain : (code : Code) (img : Image) (p : ℕ) → plain code img p ≡ true → private_next code img p ≡ true
 unfolding plain
-private_of_plain code img p e = both (private_next code img p) (is_new (table code img p)) e
+private_of_plain code img p e = and_first (private_next code img p) (is_new (table code img p)) e
 
 pub record StaysValid (code : Code) (a b : Image) : Type 0 where
   pub valid : IsValid code b
@@ -69,7 +70,7 @@ pub record StaysValid (code : Code) (a b : Image) : Type 0 where
 one_plain : (code : Code) (p : ℕ) (r : Registers) (a b : Image) → IsValid code a → is_able (numbered a.states p) ≡ true → numbered a.regs p ≡ Some r → plain code a p ≡ true
     → table code a p ≡ gives b → StaysValid code a b
 one_plain code p r a b v able has e t =
-    let live = live_of (numbered a.states p) able in
+    let live = able_live (numbered a.states p) able in
     let next = private_of_plain code a p e in
     let same = private_is_private.leaves code p r a b (valid_stands code a p r v live has) next ((limit_comes_last.new code a b p).0 t).0 in
     record { valid = operators_keep_valid.private code a b p v live next t; states = same.states }
@@ -104,10 +105,6 @@ not_plain code img p r op next program has here is =
 
 -- ---- given back again
 
-pub numbered_twice : {X : Type 0} (xs : List X) (p : ℕ) (a b : X) → set_numbered (set_numbered xs p a) p b ≡ set_numbered xs p b
-numbered_twice xs zero a b = refl
-numbered_twice xs (suc k) a b = set_set_here xs k a b
-
 pub given_twice : (img : Image) (p : ℕ) (a b : Registers) (us ws : List Word) → b.stack ≡ a.stack → given_back b ws p (given_back a us p img) ≡ given_back b ws p img
 given_twice img p a b us ws same =
     ap (λ (n : ℕ). with_own (own_of_image (with_stack (with_stack img.stacks n (take a.s us)) b.stack (take b.s ws)) img.rows b) p (record img { regs = set_numbered img.regs p a }))
@@ -133,7 +130,7 @@ none_done size outcome old new false s e = ap (λ (a : Private). a.regs) s.1
 
 module _ (code : Code) (img : Image) (p : ℕ) (r : Registers) (room : List Word) (l : IsLent code img p r room) where
   live : is_live (numbered img.states p) ≡ true
-  live = live_of (numbered img.states p) l.able
+  live = able_live (numbered img.states p) l.able
 
   process : IsProcess img p r
   process = l.valid.processes p r live l.has
@@ -150,7 +147,7 @@ module _ (code : Code) (img : Image) (p : ℕ) (r : Registers) (room : List Word
 
   -- given back as it was lent
   pub back_same : given_back r room p img ≡ img
-  back_same = ap (λ (z : Stacks). with_own (own_of_image z img.rows r) p img) (set_there img.stacks r.stack (take r.s room) open_is) ∙ same
+  back_same = ap (λ (z : Stacks). with_own (own_of_image z img.rows r) p img) (put_there img.stacks r.stack (take r.s room) open_is) ∙ same
 
   pub lent_same : IsLent code (given_back r room p img) p r room
   lent_same = subst (λ (z : Image). IsLent code z p r room) (sym back_same) l

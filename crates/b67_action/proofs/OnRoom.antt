@@ -4,6 +4,7 @@ use Rattle.std.proofs.Common.{◌≡◌, refl, sym, ap, subst, ◌∙◌, ℕ, z
 use Rattle.std.proofs.lemmas.Bool.{eqb-true, le-leb}
 use Rattle.std.proofs.lemmas.List.{take_more_set}
 use Rattle.b67_list.specs.Numbered.{numbered}
+use Rattle.b67_list.proofs.Lists.{set_set_here}
 use Rattle.b67_word.specs.declared.Place.{Place}
 use Rattle.b67_word.specs.Word.{Word, word}
 use Rattle.b67_control.specs.declared.Registers.{Registers}
@@ -17,6 +18,7 @@ use Rattle.b67_control.specs.Control.{as_irw, as_sirw, as_pcw, as_descriptor}
 use Rattle.b67_ops.specs.declared.BranchKind.TheVariants.{Brun}
 use Rattle.b67_ops.specs.declared.Couple.{Couple}
 use Rattle.b67_store.specs.Store.{Stacks, Rows, stack_at, words_of, words_or, word_at, with_stack, with_word, with_push, with_cut, stack_limit}
+use Rattle.b67_store.proofs.Cited.{put_there}
 use Rattle.b67_table.specs.declared.InterruptKind.TheVariants.{StackUnderflow}
 use Rattle.b67_table.specs.declared.Cell.{Cell}
 use Rattle.b67_table.specs.declared.Reached.{Reached}
@@ -32,8 +34,8 @@ use Rattle.b67_table.specs.References.{cell_in, cell_place, couple_cell, irw_or_
 use Rattle.b67_table.specs.Rows.{value_call, value_or_entry, value_pushed, store, store_by, stored, branch_turn}
 use Rattle.b67_table.specs.Table.{length_in, stack_length}
 use Rattle.b67_table.proofs.Limit.{fits}
-use Rattle.b67_table.proofs.Lists.{set_there, numbered_set, numbered_within, numbered_from}
-use Rattle.b67_table.proofs.Stacks.{set_here, set_set_here}
+use Rattle.b67_table.proofs.Lists.{numbered_set, numbered_within, numbered_from}
+use Rattle.b67_table.proofs.Stacks.{set_here}
 use Rattle.b67_deeds.specs.declared.Letter.TheVariants as letters
 use Rattle.b67_letters.specs.Letters.{told_by, entered_or, element_or_not, value_letter, stored_letter}
 use Rattle.b67_private.specs.declared.operators.WordsRow.TheVariants as words
@@ -276,4 +278,4 @@ module _ (r : Registers) (room : List Word) (is : IsRoom r room) (st : Stacks) (
       → ProgramPerforms (branch_turn Brun target r next) (own_of_image st rows r) (own_of_image (with_stack st r.stack (take r.s room)) rows (record r { place = target })) (Ok (tt {0}))
   turn_on target next =
       answered r (record r { place = target }) st (with_stack st r.stack (take r.s room)) rows (omega (arith, is.within, is.size)) (registers (record r { place = target }) done) (λ p img s t has.
-      put r (record r { place = target }) st (with_stack st r.stack (take r.s room)) rows (omega (arith, is.within, is.size)) p img img.stacks (s ∙ sym (set_there st r.stack (take r.s room) there)) t)
+      put r (record r { place = target }) st (with_stack st r.stack (take r.s room)) rows (omega (arith, is.within, is.size)) p img img.stacks (s ∙ sym (put_there st r.stack (take r.s room) there)) t)

@@ -4,15 +4,14 @@ use Rattle.b67_word.specs.Word.{Word}
 use Rattle.b67_control.specs.Display.{levels}
 use Rattle.b67_control.specs.declared.Registers.{Registers}
 use Rattle.b67_store.specs.Store.{Stacks, Rows, IsRoom, stack_at, words_of, words_or, with_stack, with_cut, with_row_word, stack_limit}
+use Rattle.b67_store.proofs.Cited.{put_there}
 use Rattle.b67_segment.specs.declared.code.Code.{Code}
 use Rattle.b67_table.specs.Image.{Image}
 use Rattle.b67_table.specs.Program.{Program}
-use Rattle.b67_table.proofs.Lists.{set_there}
-use Rattle.b67_table.proofs.Stacks.{set_set_here}
 use Rattle.b67_linkage.specs.Held.{IsLinked}
 use Rattle.b67_reach.specs.Answers.{ProgramPerforms}
 use Rattle.b67_reach.specs.Images.{Own, own_of_image, with_own}
-use Rattle.b67_action.specs.OnRoom as on
+use Rattle.b67_list.proofs.Lists.{set_set_here}
 use Rattle.b67_action.specs.OnRoom.{PerformsOn}
 use Rattle.b67_action.specs.Reaching.{IsOpen, IsInOpen, own_of}
 use Rattle.b67_action.specs.Running.{IsLent, given_back}
@@ -26,12 +25,6 @@ take_all [] = refl
 take_all (w ∷ ws) = ap (λ (z : List Word). w ∷ z) (take_all ws)
 
 module _ (st : Stacks) (rows : Rows) (r : Registers) (o : IsOpen st r) where
-  abbrev held : List Word
-  held = words_of st r.stack
-
-  abbrev cut : Stacks
-  cut = with_cut st r.stack r.s
-
   pub cut_words_are : words_of (with_cut st r.stack r.s) r.stack ≡ take r.s (words_of st r.stack)
   cut_words_are = ap words_or (own_words st r.stack o.opened (take r.s (words_of st r.stack)))
 
@@ -62,9 +55,6 @@ module _ (st : Stacks) (rows : Rows) (r : Registers) (o : IsOpen st r) where
         }
 
   module _ (least : ℕ) (room : List Word) (k : IsRoom (words_of st r.stack) least room) where
-    pub is_room : on.IsRoom r room
-    is_room = record { level = o.level; size = k.size; within = omega (arith, o.long, k.within) }
-
     taken : take r.s (words_of st r.stack) ≡ take r.s room
     taken = ap (λ (ws : List Word). take r.s ws) (sym k.words) ∙ front_twice room r.s (length (words_of st r.stack)) o.long
 
@@ -117,7 +107,7 @@ module _ (st : Stacks) (rows : Rows) (r : Registers) (l : IsLinked st rows r) wh
   cut_whole =
       ap (λ (n : ℕ). with_stack st r.stack (take n (words_of st r.stack))) l.size
       ∙ ap (λ (ws : List Word). with_stack st r.stack ws) (take_all (words_of st r.stack))
-      ∙ set_there st r.stack (words_of st r.stack) (there_or (stack_at st r.stack) l.opened)
+      ∙ put_there st r.stack (words_of st r.stack) (there_or (stack_at st r.stack) l.opened)
 
   pub own_whole : own_of st rows r ≡ own_of_image st rows r
   own_whole = ap (λ (z : Stacks). own_of_image z rows r) cut_whole
@@ -131,10 +121,6 @@ pub one_loan_less : (old new : Bool) (s t : ℕ) → old ≡ true → (new ≡ t
 one_loan_less true true s t e longer room = omega (arith, longer refl, room)
 one_loan_less true false s t e longer room = omega arith
 one_loan_less false new s t e longer room = cc
-
-pub either : {P : Type 0} (b : Bool) → (b ≡ true → P) → (b ≡ false → P) → P
-either true h k = h refl
-either false h k = k refl
 
 -- ---- an image in which the process stands
 

@@ -29,10 +29,6 @@ use Rattle.b67_reach.specs.Answers.{stopped}
 use Rattle.b67_reach.specs.Images.{Own, own_of_image, with_own}
 use Rattle.b67_action.specs.Own.{part_of_process, stop_by, DoesOwn}
 
--- the stacks in which a part has taken the place of what was at a base and above
-abbrev pub put_back : Stacks → ℕ → Private → Stacks
-put_back st base q = with_stack st q.regs.stack (take base (words_of st q.regs.stack) ++ reverse q.words)
-
 -- a stop of a part as an answer of its operator
 pub performs_stops : (size : ℕ) (outcome : Outcome Private) (old new : Private) (answer : Result (Unit {0}) PartStop) (stop : PartStop) → answer ≡ Err stop
     → HasPlace size old → PrivatePerforms size outcome old answer new → outcome ≡ part_stopped stop

@@ -5,18 +5,15 @@ use Rattle.std.proofs.Math.Seq.{drop-length}
 use Rattle.std.proofs.lemmas.Option.{slice_get_within}
 use Rattle.b67_word.specs.Word.{Word}
 use Rattle.b67_store.specs.Store.{Stacks, stack_at, words_of, words_or, with_stack, with_push}
-use Rattle.b67_table.proofs.Stacks.{set_here, set_set_here}
+use Rattle.b67_table.proofs.Stacks.{set_here}
+use Rattle.b67_going.proofs.Opened.{append_twice, one_taken}
+use Rattle.b67_intrinsics.proofs.Calling.{drop_at}
+use Rattle.b67_list.proofs.Lists.{set_set_here}
 
 -- ---- words that are taken
 
 step_suc : (n : ℕ) → n + 1 ≡ suc n
 step_suc n = omega arith
-
-pub one_taken : (ws : List Word) (i : ℕ) (w : Word) → slice_get ws i ≡ Some w → take i ws ++ w ∷ [] ≡ take (suc i) ws
-one_taken [] zero w e = cc
-one_taken [] (suc i) w e = cc
-one_taken (x ∷ ws) zero w e = cc
-one_taken (x ∷ ws) (suc i) w e = ap (λ (z : List Word). x ∷ z) (one_taken ws i w e)
 
 long_taken : (ws : List Word) (i : ℕ) → i ≤ length ws → i ≤ length (take i ws)
 long_taken ws zero h = omega arith
@@ -36,16 +33,6 @@ next_taken ws base at w h e =
 pub none_put : (under words : List Word) (n : ℕ) → n ≡ length words → under ++ reverse (drop n words) ≡ under
 none_put under words n e =
     ap (λ (k : ℕ). under ++ reverse (drop k words)) e ∙ ap (λ (z : List Word). under ++ reverse z) (drop-length words) ∙ append-nil under
-
-drop_at : (ws : List Word) (n : ℕ) (w : Word) → slice_get ws n ≡ Some w → drop n ws ≡ w ∷ drop (suc n) ws
-drop_at [] zero w e = cc
-drop_at [] (suc n) w e = cc
-drop_at (x ∷ ws) zero w e = let same : x ≡ w = cc in ap (λ (z : Word). z ∷ ws) same
-drop_at (x ∷ ws) (suc n) w e = drop_at ws n w e
-
-append_twice : (xs ys zs : List Word) → (xs ++ ys) ++ zs ≡ xs ++ (ys ++ zs)
-append_twice [] ys zs = refl
-append_twice (x ∷ xs) ys zs = ap (λ (z : List Word). x ∷ z) (append_twice xs ys zs)
 
 pub next_put : (under words : List Word) (n : ℕ) (w : Word) → slice_get words n ≡ Some w → (under ++ reverse (drop (suc n) words)) ++ w ∷ [] ≡ under ++ reverse (drop n words)
 next_put under words n w e =

@@ -1,9 +1,11 @@
 -- What a valid image gives for the next operator of a process, and what stays of it.
 use Rattle.std.specs.Prelude.{IfSome}
-use Rattle.std.proofs.Common.{◌≡◌, refl, sym, ap, subst, ◌∙◌, ℕ, zero, suc, ◌+◌, ◌-◌, ◌≤◌, Bool, true, false, List, [], ◌∷◌, length, get_or, Option, Some, None, IsSome, is_some, All, arith}
+use Rattle.std.proofs.Common.{◌≡◌, refl, sym, ap, subst, ◌∙◌, ℕ, zero, suc, ◌+◌, ◌-◌, ◌≤◌, true, false, List, [], ◌∷◌, length, get_or, Option, Some, None, IsSome, All, arith}
 use Rattle.std.proofs.lemmas.List.Sums.{sum_by-cons}
 use Rattle.std.proofs.lemmas.Option.{slice_get-get_or}
 use Rattle.b67_list.specs.Numbered.{numbered}
+use Rattle.b67_list.proofs.Answered.{none_there}
+use Rattle.b67_list.proofs.Truths.{not_true}
 use Rattle.b67_word.specs.Word.{Word, IsWord}
 use Rattle.b67_control.specs.declared.Registers.{Registers}
 use Rattle.b67_control.specs.Control.{as_descriptor}
@@ -18,6 +20,7 @@ use Rattle.b67_table.specs.Valid.{IsValid, waits, is_no_mother}
 use Rattle.b67_table.proofs.EventKept.{who_waits}
 use Rattle.b67_table.proofs.Lists.{numbered_within, numbered_from}
 use Rattle.b67_table.proofs.OwnValid.{process_stays}
+use Rattle.b67_table.proofs.Waking.{able_live}
 use Rattle.b67_linkage.proofs.Linked.{live_are_linked}
 use Rattle.b67_ops.specs.declared.TheConstants.{MOST_LEVEL}
 use Rattle.b67_private.specs.Parts.{IsPrivatePart}
@@ -30,6 +33,7 @@ use Rattle.b67_reach.specs.Woken.{HasPlaces, KeepsPlaces}
 use Rattle.b67_action.specs.Acting.{IsActing}
 use Rattle.b67_action.specs.Done.{KernelHasRoom}
 use Rattle.b67_action.specs.Own.{part_of_process}
+use Rattle.b67_action.proofs.Able.{able_waits}
 
 pub some_is : {A : Type 0} (P : A → Type 0) (o : Option A) (a : A) → o ≡ Some a → IfSome o P → P a
 some_is {A = A} P o a e x = subst (λ (z : Option A). IfSome z P) e x
@@ -37,62 +41,38 @@ some_is {A = A} P o a e x = subst (λ (z : Option A). IfSome z P) e x
 pub if_some : {A : Type 0} (P : A → Type 0) (o : Option A) (a : A) → o ≡ Some a → P a → IfSome o P
 if_some {A = A} P o a e x = subst (λ (z : Option A). IfSome z P) (sym e) x
 
-pub live_of : (o : Option ProcessState) → is_able o ≡ true → is_live o ≡ true
-live_of None e = cc
-live_of (Some states.Able) e = refl
-live_of (Some (states.WaitsFor at)) e = cc
-live_of (Some states.WaitsAny) e = cc
-live_of (Some (states.Procures at)) e = cc
-live_of (Some states.Ended) e = cc
-
-no_waiter : (o : Option ProcessState) → is_able o ≡ true → waits o ≡ true → ⊥
-no_waiter None e f = cc
-no_waiter (Some states.Able) e f = cc
-no_waiter (Some (states.WaitsFor at)) e f = cc
-no_waiter (Some states.WaitsAny) e f = cc
-no_waiter (Some (states.Procures at)) e f = cc
-no_waiter (Some states.Ended) e f = cc
-
 -- there is room for as many to be released as there was
 pub kept_places : (n m : ℕ) (old new : Woken) → HasPlaces n old → KeepsPlaces old new → m ≡ n → HasPlaces m new
 kept_places n m old new h k e = (omega (arith, h.0, k.0, e), omega (arith, h.1, k.1, e))
-
-not_true : (b : Bool) → (b ≡ true → ⊥) → b ≡ false
-not_true true h = absurd (h refl)
-not_true false h = refl
 
 past : (xs : List ProcessState) (n : ℕ) → length xs ≤ n → is_live (numbered xs (suc n)) ≡ false
 past [] n h = refl
 past (x ∷ xs) zero h = absurd (omega (arith, h))
 past (x ∷ xs) (suc n) h = past xs n (omega (arith, h))
 
-none_open : {X : Type 0} (o : Option X) → is_some o ≡ false → o ≡ None
-none_open None e = refl
-none_open (Some x) e = cc
-
 module _ (stacks : Stacks) (rows : Rows) (kernel : Events) (parts : Parts) (p : ℕ) (r : Registers) (v : IsValid parts.code (image_of stacks rows kernel parts))
     (able : is_able (numbered parts.states.items p) ≡ true) (room : KernelHasRoom kernel parts) (has : numbered parts.regs.items p ≡ Some r) where
   next_free : stack_at stacks (parts.started + 1) ≡ None
   next_free =
       let n_is : suc parts.started ≡ parts.started + 1 = omega arith in
-      none_open (stack_at stacks (parts.started + 1))
+      none_there (stack_at stacks (parts.started + 1))
       (v.stacks (parts.started + 1) (omega arith) ∙ ap (λ (n : ℕ). is_live (numbered parts.states.items n)) (sym n_is)
       ∙ past parts.states.items parts.started (omega (arith, v.states)))
 
   pub acting : IsActing stacks rows kernel parts p
   acting = record {
     linked = subst (λ (o : Option Registers). IsLinkedIn stacks rows o) (sym has)
-        (live_are_linked parts.code (image_of stacks rows kernel parts) p r v (live_of (numbered parts.states.items p) able) has);
+        (live_are_linked parts.code (image_of stacks rows kernel parts) p r v (able_live (numbered parts.states.items p) able) has);
     number = numbered_from parts.regs.items p r has;
     within = omega (arith, numbered_within parts.regs.items p r has, v.registers, v.most, room.waiting);
-    idle = not_true (is_waiting p kernel.events) (λ w. no_waiter (numbered parts.states.items p) able (who_waits kernel.events kernel.lists parts.states.items v.events p w));
-    unlisted = not_true (is_listed p kernel.lists) (λ i. no_waiter (numbered parts.states.items p) able (ap waits (v.events.listed p i)));
+    idle = not_true (is_waiting p kernel.events) (λ w. able_waits (numbered parts.states.items p) able (who_waits kernel.events kernel.lists parts.states.items v.events p w));
+    unlisted = not_true (is_listed p kernel.lists) (λ i. able_waits (numbered parts.states.items p) able (ap waits (v.events.listed p i)));
     room = room.released;
     next = record { free = next_free; each = v.registers ∙ sym v.states; numbers = v.registers ∙ sym v.numbers; most = v.most };
   }
 
   pub live : is_live (numbered parts.states.items p) ≡ true
-  live = live_of (numbered parts.states.items p) able
+  live = able_live (numbered parts.states.items p) able
 
   pub level_known : r.ll ≤ MOST_LEVEL
   level_known = omega (arith, (live_are_linked parts.code (image_of stacks rows kernel parts) p r v live has).level)
@@ -149,7 +129,7 @@ left_valid code old new v k few = subst (λ (z : Image). IsValid code z) (sym k.
 
 -- ---- the registers of an able process
 
-there : {X : Type 0} (xs : List X) (p : ℕ) → 1 ≤ p → p ≤ length xs → IsSome (numbered xs p)
+pub there : {X : Type 0} (xs : List X) (p : ℕ) → 1 ≤ p → p ≤ length xs → IsSome (numbered xs p)
 there xs zero o h = absurd (omega (arith, o))
 there [] (suc k) o h = absurd (omega (arith, h))
 there (x ∷ xs) (suc zero) o h = refl

@@ -14,10 +14,6 @@ use Rattle.b67_reach.specs.Answers.{looked}
 use Rattle.b67_action.specs.Acting.{hindered, CallReleases, CalleeReleases, EnterReleases}
 use Rattle.b67_action.specs.Done.{makes}
 
-pub on_ok : {A B : Type 0} (res : Result A B) (X : Type 0) → X → OnOk res X
-on_ok (Ok a) X x = x
-on_ok (Err b) X x = tt
-
 pub on_hindered : (res : Result (Unit {0}) Stop) (X Y : Type 0) → (X → Y) → OnOk res X → OnOk (hindered res) Y
 on_hindered (Ok u) X Y f x = f x
 on_hindered (Err stop) X Y f x = tt

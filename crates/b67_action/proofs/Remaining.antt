@@ -1,5 +1,5 @@
 -- Operators on words and rows that enter no procedure: of the registers they set S and the place of the pointer, and no other.
-use Rattle.std.proofs.Common.{◌≡◌, refl, sym, ap, subst, ◌∙◌, ℕ, ◌-◌, ◌+◌, Bool, true, false, cond, List, Option, Some, None, Ok}
+use Rattle.std.proofs.Common.{◌≡◌, refl, sym, ap, subst, ◌∙◌, ℕ, ◌-◌, ◌+◌, Bool, true, false, List, Option, Some, None, Ok}
 use Rattle.b67_list.specs.Numbered.{numbered, set_numbered}
 use Rattle.b67_word.specs.declared.Place.{Place}
 use Rattle.b67_word.specs.Word.{Word}
@@ -8,7 +8,7 @@ use Rattle.b67_control.specs.declared.Descriptor.{Descriptor}
 use Rattle.b67_control.specs.Control.{as_descriptor, descriptor_word}
 use Rattle.b67_ops.specs.declared.BranchKind.{BranchKind}
 use Rattle.b67_ops.specs.declared.BranchKind.TheVariants.{Brfl, Brtr, Brun}
-use Rattle.b67_letters.proofs.Calm.{Each, each_asked}
+use Rattle.b67_letters.proofs.Calm.{Each, each_asked, each_if, each_then}
 use Rattle.b67_store.specs.Store.{Stacks, Rows}
 use Rattle.b67_table.specs.Arrays.{as_indexed, element, index_in, index_or_fault, subscripted, subscripted_element, index_program, index_and_load, index_mother}
 use Rattle.b67_table.specs.Effect.{Effect, gives, faults, interrupts}
@@ -16,7 +16,7 @@ use Rattle.b67_table.specs.Image.{Image}
 use Rattle.b67_table.specs.Look.{◌>->◌, valid}
 use Rattle.b67_table.specs.Moves.{replaced}
 use Rattle.b67_table.specs.Privacy.{RegistersStay}
-use Rattle.b67_table.specs.Program.{Test, answer, interrupt, fault, ask, ◌>>=◌, asked, see, Change, changed, Program, does, effect_of, write_row, save}
+use Rattle.b67_table.specs.Program.{answer, asked, see, Change, changed, does, effect_of, write_row, save}
 use Rattle.b67_table.specs.References.{cell_of, named, popped, popped_two, operand_in, invalid, cell_place}
 use Rattle.b67_table.specs.Rows.{turn_by, branch_turn, loaded, load_value, is_passed, load_through, store_by, stored, store}
 use Rattle.b67_table.specs.Table.{stack_length}
@@ -29,16 +29,6 @@ use Rattle.b67_private.specs.Actions.{words_program}
 use Rattle.b67_reach.specs.Answers.{ProgramPerforms}
 use Rattle.b67_reach.specs.Images.{Own, own_of_image, with_own}
 use Rattle.b67_action.specs.Reaching.{enters}
-
-each_then : {A : Type 0} (P : Change → Type 0) (t : Test A) (f : A → Program) → ((a : A) → Each P (f a)) → Each P (t >>= f)
-each_then P (answer a) f k = k a
-each_then P (interrupt kind) f k = tt
-each_then P (fault kind) f k = tt
-each_then P (ask q more) f k = λ a. each_then P (more a) f k
-
-each_if : (P : Change → Type 0) (b : Bool) (t u : Program) → Each P t → Each P u → Each P (cond b t u)
-each_if P true t u k l = k
-each_if P false t u k l = l
 
 set_keeps : (r q : Registers) (s place p : ℕ) (all : List Registers) → numbered all p ≡ Some r → numbered (set_numbered all p (record r { s = s; place = place })) p ≡ Some q → RegistersStay r q
 set_keeps r q s place p all has e =

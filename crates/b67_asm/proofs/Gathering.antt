@@ -16,7 +16,7 @@ use Rattle.b67_asm.specs.Labels.{found_in, labels_from, label_named, place_after
 use Rattle.b67_asm.specs.Rules.{is_segment}
 use Rattle.b67_asm.specs.Steps.{LabelAdds, AtSegment, Gathers, LabelTable}
 use Rattle.b67_asm.proofs.Tables.{or_none}
-use Rattle.b67_asm.proofs.Lines.{line_at, is_segment-true}
+use Rattle.b67_asm.proofs.Lines.{line_at, is_segment_true}
 
 -- ---- one line
 
@@ -70,7 +70,7 @@ empty_found table empty name =
 
 none_left : (line at : ℕ) (rest : List Reading) → AtSegment rest → labels_from line at rest ≡ []
 none_left line at [] stops = refl
-none_left line at (reading ∷ rest) stops = subst (λ (r : Reading). labels_from line at (r ∷ rest) ≡ []) (sym (is_segment-true reading stops)) refl
+none_left line at (reading ∷ rest) stops = subst (λ (r : Reading). labels_from line at (r ∷ rest) ≡ []) (sym (is_segment_true reading stops)) refl
 
 pub gathered_none : (lines : List Reading) (from : ℕ) (table : LabelTable) → from ≤ length lines → IsEmpty table → Gathered lines from table 0 from
 gathered_none lines from table within empty = record {

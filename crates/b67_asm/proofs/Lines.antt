@@ -54,14 +54,14 @@ segments_skip line (Label name) rest h = refl
 segments_skip line (Operator written) rest h = refl
 segments_skip line (Format fits) rest h = refl
 
-pub is_segment-true : (reading : Reading) → is_segment reading ≡ true → reading ≡ Segment
-is_segment-true Segment h = refl
-is_segment-true Blank h = absurd cc
-is_segment-true NoItem h = absurd cc
-is_segment-true (Level level) h = absurd cc
-is_segment-true (Label name) h = absurd cc
-is_segment-true (Operator written) h = absurd cc
-is_segment-true (Format fits) h = absurd cc
+pub is_segment_true : (reading : Reading) → is_segment reading ≡ true → reading ≡ Segment
+is_segment_true Segment h = refl
+is_segment_true Blank h = absurd cc
+is_segment_true NoItem h = absurd cc
+is_segment_true (Level level) h = absurd cc
+is_segment_true (Label name) h = absurd cc
+is_segment_true (Operator written) h = absurd cc
+is_segment_true (Format fits) h = absurd cc
 
 -- ---- a line is taken, or refused
 

@@ -20,7 +20,7 @@ use Rattle.b67_asm.specs.Rules.{Inside, segment_begun, broken_before, first_befo
 use Rattle.b67_asm.specs.declared.refusal.NotAssembled.{NotAssembled}
 use Rattle.b67_asm.specs.Assembling.{AreCode, IsFirst, operators_from, segments_from}
 use Rattle.b67_asm.specs.Steps.{AtSegment, HasPassed, HasRead, HasRest, HasTaken, HasTakenLines, IsBlockLevel, RefusesLine, inside_of}
-use Rattle.b67_asm.proofs.Lines.{line_at, before_skips, segments_skip, is_segment-true, code_more}
+use Rattle.b67_asm.proofs.Lines.{line_at, before_skips, segments_skip, is_segment_true, code_more}
 
 -- what a refusal is the first of
 pub first_as : (e : NotAssembled) {first other : Option Refusal} → first ≡ other → IsFirst e other → IsFirst e first
@@ -39,22 +39,22 @@ module _ (lines : List Reading) (at : ℕ) where
   begins_here inside stops =
       let here = drop_more lines at Blank inside in
       let first : is_segment (get_or lines at Blank) ≡ true = subst AtSegment here stops in
-      here ∙ ap (λ (r : Reading). r ∷ drop (at + 1) lines) (is_segment-true (get_or lines at Blank) first)
+      here ∙ ap (λ (r : Reading). r ∷ drop (at + 1) lines) (is_segment_true (get_or lines at Blank) first)
 
 stop_in : (inside other : Inside) (line : ℕ) (rest : List Reading) → AtSegment rest → first_in inside line rest ≡ first_in other line rest
 stop_in inside other line [] stops = refl
 stop_in inside other line (reading ∷ rest) stops =
-    subst (λ (r : Reading). first_in inside line (r ∷ rest) ≡ first_in other line (r ∷ rest)) (sym (is_segment-true reading stops)) refl
+    subst (λ (r : Reading). first_in inside line (r ∷ rest) ≡ first_in other line (r ∷ rest)) (sym (is_segment_true reading stops)) refl
 
 stop_before : (line : ℕ) (rest : List Reading) → AtSegment rest → first_before line rest ≡ first_in nowhere line rest
 stop_before line [] stops = refl
 stop_before line (reading ∷ rest) stops =
-    subst (λ (r : Reading). first_before line (r ∷ rest) ≡ first_in nowhere line (r ∷ rest)) (sym (is_segment-true reading stops)) refl
+    subst (λ (r : Reading). first_before line (r ∷ rest) ≡ first_in nowhere line (r ∷ rest)) (sym (is_segment_true reading stops)) refl
 
 stop_operators : (labels : List ℕ → Option Standing) (level : ℕ) (rest : List Reading) → AtSegment rest → operators_from labels level rest ≡ []
 stop_operators labels level [] stops = refl
 stop_operators labels level (reading ∷ rest) stops =
-    subst (λ (r : Reading). operators_from labels level (r ∷ rest) ≡ []) (sym (is_segment-true reading stops)) refl
+    subst (λ (r : Reading). operators_from labels level (r ∷ rest) ≡ []) (sym (is_segment_true reading stops)) refl
 
 -- ---- the lines before the first SEGMENT
 

@@ -1,17 +1,16 @@
 -- How many syllables an operator has, and which operators can stand at a level.
-use Rattle.std.proofs.Common.{◌≡◌, ℕ, ◌+◌, ◌^◌, true, List, [], ◌∷◌, ◌++◌, length, replicate, Option, Some, None, Result, Ok, Err, refl, sym, ap, ◌∙◌, inl, inr, arith, length-append}
+use Rattle.std.proofs.Common.{◌≡◌, ℕ, ◌+◌, ◌^◌, true, List, [], ◌∷◌, ◌++◌, length, Option, Some, None, Result, Ok, Err, refl, sym, ap, ◌∙◌, inl, inr, arith}
 use Rattle.std.specs.Prelude.{nat_le, nat_lt}
-use Rattle.std.specs.Int.{bytes_high_first}
 use Rattle.std.proofs.lemmas.Bool.{and_parts, cases_Bool, cond-true, cond-false, ltb-true, leb-true}
-use Rattle.std.proofs.lemmas.List.{length-replicate}
 use Rattle.b67_ops.specs.declared.BranchKind.{BranchKind}
 use Rattle.b67_ops.specs.declared.Couple.{Couple}
 use Rattle.b67_ops.specs.declared.Operator.{Operator as Op}
 use Rattle.b67_ops.specs.declared.Operator.TheVariants as ops
 use Rattle.b67_ops.specs.declared.table.OperatorKind.TheVariants as kinds
 use Rattle.b67_ops.specs.Spelling.{filling, kind_of, spelling, index_bits, CoupleIsSeen, Fits}
+use Rattle.b67_ops.proofs.Laws.{length_word}
 use Rattle.b67_segment.specs.Operators.{Placed, size}
-use Rattle.b67_segment.proofs.Among.{size-append}
+use Rattle.b67_segment.proofs.Among.{size_append}
 use Rattle.b67_asm_text.specs.declared.item.Written.{Written}
 use Rattle.b67_asm_text.specs.declared.item.Written.TheVariants.{Whole, ToLabel, TooGreat}
 use Rattle.b67_asm.specs.declared.label.Standing.{Standing}
@@ -20,18 +19,13 @@ use Rattle.b67_asm.specs.declared.refusal.Rule.TheVariants.{Range}
 use Rattle.b67_asm.specs.Labels.{kind_written, place_after, width_of}
 use Rattle.b67_asm.specs.Rules.{branch_to, fits, if_fits, is_seen, resolved}
 
-length-word : (count n : ℕ) → length (replicate count 0 ++ bytes_high_first 6 n) ≡ count + 6
-length-word count n =
-    let six : length (bytes_high_first 6 n) ≡ 6 = refl in
-    omega (arith, six, length-append (replicate count 0) (bytes_high_first 6 n), length-replicate {A = ℕ} count 0)
-
 pub length_spelled : (at level : ℕ) (operator : Op) → length (spelling at level operator) ≡ width_of at (kind_of operator)
 length_spelled at level (ops.Valc couple) = refl
 length_spelled at level (ops.Namc couple) = refl
 length_spelled at level (ops.Lt8 n) = refl
 length_spelled at level (ops.Lt16 n) = refl
-length_spelled at level (ops.Lt48 n) = omega (arith, length-word (filling at) n)
-length_spelled at level (ops.Mpcw n) = omega (arith, length-word (filling at) n)
+length_spelled at level (ops.Lt48 n) = omega (arith, length_word (filling at) n)
+length_spelled at level (ops.Mpcw n) = omega (arith, length_word (filling at) n)
 length_spelled at level (ops.Branch kind place) = refl
 length_spelled at level (ops.Plain kind) = refl
 
@@ -86,4 +80,4 @@ width_resolved labels level written operator at h =
 pub size_resolved : (labels : List ℕ → Option Standing) (level : ℕ) (written : Written) (operator : Op) (old new : List Placed) → resolved labels level written ≡ Ok operator →
     new ≡ old ++ record { level = level; operator = operator } ∷ [] → size new ≡ place_after (size old) written
 size_resolved labels level written operator old new h e =
-    ap size e ∙ size-append old (record { level = level; operator = operator }) ∙ width_resolved labels level written operator (size old) h
+    ap size e ∙ size_append old (record { level = level; operator = operator }) ∙ width_resolved labels level written operator (size old) h

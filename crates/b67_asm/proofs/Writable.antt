@@ -11,7 +11,7 @@ use Rattle.b67_segment.specs.declared.code.Format.{Format as Form}
 use Rattle.b67_segment.specs.declared.code.Code.{Code}
 use Rattle.b67_segment.specs.Operators.{Placed, filled, last_level, missing, size}
 use Rattle.b67_segment.specs.Syllables.{Spells}
-use Rattle.b67_segment.proofs.Filling.{words-few}
+use Rattle.b67_segment.proofs.Filling.{words_few}
 use Rattle.b67_listing.specs.Listings.{AreListable, HasOperators, IsPhrase}
 use Rattle.b67_listing.proofs.Spelled.{spelled_segment}
 use Rattle.b67_asm_text.specs.Items.{readings}
@@ -28,7 +28,7 @@ filled_some ps some =
 
 has_operators : (ps : List Placed) (segment : Made) → FillSegment ps → Spells (filled ps) segment → HasOperators segment
 has_operators ps segment fills spells =
-    let few : length segment.words ≤ MOST_SEGMENT_WORDS = omega (arith, fills.few, words-few ps segment spells) in
+    let few : length segment.words ≤ MOST_SEGMENT_WORDS = omega (arith, fills.few, words_few ps segment spells) in
     spelled_segment segment (filled ps) spells (filled_some ps fills.some) few
 
 all_have : (pss : List (List Placed)) (segments : List Made) → FillSegments pss → AreCode pss segments → AreListable segments

@@ -1,6 +1,5 @@
 -- The records of a text, one after another.
 use Rattle.std.proofs.Common.{◌≡◌, ℕ, ◌+◌, ◌<◌, ◌≤◌, not, cond, List, [], ◌∷◌, ◌++◌, length, map, take, drop, refl, sym, ap, ◌∙◌, subst, inl, inr, arith, append_assoc}
-use Rattle.std.specs.Prelude.{Result, Ok, Err, OnOk}
 use Rattle.std.specs.List.{flat_map, onto_first, position_or_len}
 use Rattle.std.proofs.lemmas.Bool.{cases_Bool}
 use Rattle.std.proofs.lemmas.List.{append-nil, drop-drop}
@@ -62,11 +61,6 @@ module _ (rest : List ℕ) (split : records rest ≡ rest ∷ []) where
   pub formats_all : (old new all : List Format) → new ≡ old ++ format_of rest → old ++ flat_map format_of (records rest) ≡ all → new ≡ all
   formats_all old new all e h =
       e ∙ ap (λ (fs : List Format). old ++ fs) (sym (append-nil (format_of rest))) ∙ ap (λ (rs : List (List ℕ)). old ++ flat_map format_of rs) (sym split) ∙ h
-
--- what holds anyhow, where there was memory
-pub when_ok : {A E : Type 0} (r : Result A E) (P : Type 0) → P → OnOk r P
-when_ok (Ok x) P p = p
-when_ok (Err e) P p = tt
 
 -- a record with nothing in it is no format
 no_format : (code : List ℕ) → length code ≡ 0 → format_from (phrases_in code) ≡ []

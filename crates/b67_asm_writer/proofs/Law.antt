@@ -10,7 +10,7 @@ use Rattle.b67_segment.specs.declared.code.Segment.{Segment as Made}
 use Rattle.b67_segment.specs.declared.code.Code.{Code}
 use Rattle.b67_segment.specs.Operators as building
 use Rattle.b67_segment.specs.Syllables.{Spells, syllables}
-use Rattle.b67_segment.proofs.Fetches.{length-syllables}
+use Rattle.b67_segment.proofs.Fetches.{length_syllables}
 use Rattle.b67_listing.specs.Operators.{ListedOperator}
 use Rattle.b67_listing.specs.Listings.{HasOperators, IsSegment, StandInOrder}
 use Rattle.b67_listing_reader.specs.Reading.{unplaced}
@@ -36,15 +36,15 @@ fills segment ps is =
     record {
       end = length bytes;
       order = (filled bytes 0 ps is.filled).order;
-      some = some_operators bytes ps is.filled (omega (arith, is.some, length-syllables segment.words));
-      room = omega (arith, is.few, length-syllables segment.words);
+      some = some_operators bytes ps is.filled (omega (arith, is.some, length_syllables segment.words));
+      room = omega (arith, is.few, length_syllables segment.words);
     }
 
 -- its operators are whole words, which no NOOPs fill
 none_missing : (segment : Made) (ps : List ListedOperator) → IsSegment segment ps → building.missing (building.size (unplaced ps)) ≡ 0
 none_missing segment ps is =
     let bytes = syllables segment.words in
-    omega (arith, size_is ps (length bytes) (filled bytes 0 ps is.filled).order, length-syllables segment.words)
+    omega (arith, size_is ps (length bytes) (filled bytes 0 ps is.filled).order, length_syllables segment.words)
 
 spelled : (segment : Made) (ps : List ListedOperator) → IsSegment segment ps → Spells (building.filled (unplaced ps)) segment
 spelled segment ps is =

@@ -12,7 +12,7 @@ use Rattle.b67_ops.specs.declared.Operator.TheVariants as ops
 use Rattle.b67_ops.specs.declared.BranchKind.{BranchKind}
 use Rattle.b67_ops.specs.declared.PlainKind.{PlainKind}
 use Rattle.b67_ops.specs.Spelling.{Fits, CoupleIsSeen, index_bits, kind_of}
-use Rattle.b67_ops.proofs.Couples.{level_bits-within}
+use Rattle.b67_ops.proofs.Couples.{level_bits_within}
 use Rattle.b67_listing.specs.Digits.{last_digits}
 use Rattle.b67_listing.specs.Operators.{operand_text}
 use Rattle.b67_asm_text.specs.declared.operand.TheConstants.{MOST_INDEX_BITS}
@@ -36,7 +36,7 @@ pub record IsOperand (op : Op) (operand : List ℕ) : Type 0 where
 -- ---- couples
 
 few_bits : (level : ℕ) → index_bits level ≤ 13
-few_bits level = omega (arith, level_bits-within level)
+few_bits level = omega (arith, level_bits_within level)
 
 index_below : (level index : ℕ) → index < 2 ^ index_bits level → index < 2 ^ 13
 index_below level index h = let most : 2 ^ index_bits level ≤ 2 ^ 13 = pow_mono {i = index_bits level} {j = 13} (few_bits level) in omega (arith, h, most)

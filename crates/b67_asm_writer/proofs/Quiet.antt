@@ -114,16 +114,6 @@ word_before (b ∷ bs) rest h stops =
     cond-true (no_blank b) (1 + word_length (bs ++ rest)) 0 (not_from_false (is_blank b) (not_blank b p.0))
     ∙ ap (λ (n : ℕ). 1 + n) (word_before bs rest p.1 stops) ∙ one
 
--- a text that is not empty
-pub record IsSome (bytes : List ℕ) : Type 0 where
-  pub first : ℕ
-  pub more : List ℕ
-  pub is : bytes ≡ first ∷ more
-
-pub some_of : (bytes : List ℕ) → 1 ≤ length bytes → IsSome bytes
-some_of [] h = absurd (omega arith)
-some_of (b ∷ bs) h = record { first = b; more = bs; is = refl }
-
 word_first : (word rest : List ℕ) → 1 ≤ length word → are_high word ≡ true → unblanked (word ++ rest) ≡ word ++ rest
 word_first [] rest some h = absurd (omega arith)
 word_first (b ∷ bs) rest some h = high_first b (bs ++ rest) (and_parts (is_high b) (are_high bs) h).0

@@ -13,7 +13,7 @@ use Rattle.b67_segment.specs.declared.code.Format.{Format as Form}
 use Rattle.b67_segment.specs.Operators as building
 use Rattle.b67_listing.specs.Operators.{ListedOperator}
 use Rattle.b67_listing_reader.specs.Reading.{AreInOrder, unplaced, width}
-use Rattle.b67_listing_reader.proofs.Orders.{order-grows}
+use Rattle.b67_listing_reader.proofs.Orders.{order_grows}
 use Rattle.b67_asm_text.specs.declared.item.Written.TheVariants.{Whole}
 use Rattle.b67_asm_text.specs.declared.item.Reading.{Reading}
 use Rattle.b67_asm_text.specs.declared.item.Reading.TheVariants.{Segment, Level, Operator}
@@ -106,7 +106,7 @@ module _ (labels : List ℕ → Option Standing) where
       let long = length (spelling place first.level first.operator) in
       let wide : width first ≡ long = ap (λ (k : ℕ). length (spelling k first.level first.operator)) order.0.place_is in
       let next : AreInOrder (place + long) more end = subst (λ (k : ℕ). AreInOrder (place + k) more end) wide order.1 in
-      let grows : place + long ≤ end = order-grows (place + long) more end next in
+      let grows : place + long ≤ end = order_grows (place + long) more end next in
       let lines : line + length change + 1 + length after ≡ line + length (change ++ (own ∷ after)) = omega (arith, length-append change (own ∷ after)) in
       ap (first_in (stands_at labels before place) line) (append_assoc change (own ∷ after) rest)
       ∙ level_passes before first.level place line (own ∷ (after ++ rest))

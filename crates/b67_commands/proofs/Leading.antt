@@ -1,9 +1,9 @@
 -- Where the command at a place leads by the notes.
-use Rattle.std.proofs.Common.{◌≡◌, inl, inr, sym, ap, ◌∙◌, subst, ℕ, ◌+◌, ◌<◌, ◌≤◌, min, List, [], ◌∷◌, ◌++◌, length, drop, get_or, Some, arith}
+use Rattle.std.proofs.Common.{◌≡◌, inl, inr, sym, ap, ◌∙◌, subst, ℕ, ◌+◌, ◌<◌, ◌≤◌, List, [], ◌∷◌, ◌++◌, length, drop, get_or, Some, arith}
 use Rattle.std.specs.Prelude.{◌⊎◌, slice_get}
-use Rattle.std.proofs.lemmas.List.{append_assoc, append-nil, drop_all, drop_more}
+use Rattle.std.proofs.lemmas.List.{append_assoc, drop_more}
 use Rattle.b67_commands.specs.declared.command.Command.{Command}
-use Rattle.b67_commands.specs.declared.command.Command.TheVariants.{Go, Store, Show, Stack, Regs}
+use Rattle.b67_commands.specs.declared.command.Command.TheVariants.{Store, Show, Stack, Regs}
 use Rattle.b67_commands.specs.declared.noting.Note.{Note}
 use Rattle.b67_commands.specs.Positions.{Stored, to_store, position_moved, positions}
 use Rattle.b67_commands.specs.Noting.{looked_for, notes_of, next_noted, MovesTo}
@@ -12,11 +12,6 @@ use Rattle.b67_commands.proofs.Notes.{notes_lead}
 module _ (commands : List Command) (notes : List Note) (all place k n : ℕ) where
   one_command : (one other : Command) → slice_get commands place ≡ Some one → slice_get commands place ≡ Some other → other ≡ one
   one_command one other a b = cc
-
-  pub goes : (m : ℕ) → slice_get commands place ≡ Some (Go m) → n ≡ min all m → MovesTo commands notes all place k n
-  goes m here e command stored at is size few =
-      let same : command ≡ Go m = one_command (Go m) command here at in
-      let so : n ≡ min m (length stored) = omega (arith, e, size) in subst (λ (c : Command). n ≡ position_moved stored k c) (sym same) so
 
   pub leads : (name : List ℕ) (first : ℕ) → slice_get commands place ≡ Some (Store name) → looked_for commands name ≡ Some first → n ≡ next_noted notes all k first
       → MovesTo commands notes all place k n
@@ -44,12 +39,6 @@ one_more commands stored at place k n d within so e =
     let here : positions stored k (command ∷ drop (place + 1) commands) ≡ n ∷ positions stored n (drop (place + 1) commands) =
     ap (λ (m : ℕ). m ∷ positions stored m (drop (place + 1) commands)) (sym e) in
     append_assoc at (n ∷ []) (positions stored n (drop (place + 1) commands)) ∙ ap (λ (xs : List ℕ). at ++ xs) (sym (next ∙ here)) ∙ so
-
-pub all_told : (commands : List Command) (stored : Stored) (at : List ℕ) (place k : ℕ) → length commands ≤ place
-    → at ++ positions stored k (drop place commands) ≡ positions stored 0 commands → at ≡ positions stored 0 commands
-all_told commands stored at place k past so =
-    let none : drop place commands ≡ [] = drop_all place commands past in
-    sym (append-nil at) ∙ ap (λ (cs : List Command). at ++ positions stored k cs) (sym none) ∙ so
 
 -- ---- commands that do not move
 

@@ -1,15 +1,12 @@
 -- The lines of commands, and the texts that begin with them.
-use Rattle.std.proofs.Common.{◌≡◌, ◌≢◌, refl, sym, ap, ◌∙◌, subst, inl, inr, ℕ, zero, suc, ◌+◌, ◌^◌, ◌<◌, ◌≤◌, List, [], ◌∷◌, ◌++◌, length, take, drop, get_or, true, false, Some, None, Result, Ok, Err, IsUtf8, codes, decimal, arith}
-use Rattle.std.proofs.lemmas.List.{length-append, length-take-le, get_or-take, append_cancel_left}
+use Rattle.std.proofs.Common.{◌≡◌, ◌≢◌, refl, sym, ap, ◌∙◌, subst, ℕ, ◌+◌, ◌^◌, ◌<◌, ◌≤◌, List, [], ◌∷◌, ◌++◌, length, Some, Result, Ok, Err, IsUtf8, decimal, arith}
+use Rattle.std.proofs.lemmas.List.{length-append, append_cancel_left}
 use Rattle.std.proofs.lemmas.Str.{IsUtf8-from_ascii}
 use Rattle.std.proofs.lemmas.Fmt.{IsAscii-decimal, parse-decimal}
 use Rattle.std.specs.Str.Parse.{ParsesUnsigned}
-use Rattle.algol_tree.specs.declared.TheConstants.{MOST_NAME_BYTES}
-use Rattle.algol_tree.specs.Spelling.{is_name}
 use Rattle.b67_commands.specs.declared.command.TheConstants.{MOST_COMMANDS, MOST_NUMBER}
 use Rattle.b67_commands.specs.declared.command.Command.{Command}
-use Rattle.b67_commands.specs.declared.command.Command.TheVariants.{Go, Store, Show, Stack, Regs}
-use Rattle.b67_commands.specs.Commands.{IsNumbered, IsNamed, IsCommand, IsFirstLine, Begin, none, next, AreCommands, IsBadLine, MayStandNext}
+use Rattle.b67_commands.specs.Commands.{IsNumbered, IsCommand, IsFirstLine, Begin, none, next, MayStandNext}
 
 -- ---- numbers
 
@@ -55,63 +52,9 @@ number_so word line numeral number e is few = record { line_is = e ∙ ap (λ (d
 
 -- ---- names
 
-same_name : (line name other : List ℕ) → line ≡ codes "STORE " ++ name → IsNamed line other → other ≡ name
-same_name line name other e named = append_cancel_left (codes "STORE ") other name (sym named.line_is ∙ e)
-
-pub no_form_no_name : (line name : List ℕ) → line ≡ codes "STORE " ++ name → is_name name ≡ false → (other : List ℕ) → IsNamed line other → ⊥
-no_form_no_name line name e lacks other named =
-    let holds : true ≡ false = sym named.is ∙ ap is_name (same_name line name other e named) ∙ lacks in cc
-
-pub too_long_no_name : (line name : List ℕ) → line ≡ codes "STORE " ++ name → MOST_NAME_BYTES < length name → (other : List ℕ) → IsNamed line other → ⊥
-too_long_no_name line name e long other named =
-    let same : length other ≡ length name = ap length (same_name line name other e named) in omega (arith, named.few, long, same)
-
 -- ---- commands
 
-pub no_command : (line : List ℕ) → line ≢ codes "SHOW" → ((n : ℕ) → IsNumbered (codes "GO ") line n → ⊥) → ((n : ℕ) → IsNumbered (codes "STACK ") line n → ⊥)
-    → ((n : ℕ) → IsNumbered (codes "REGS ") line n → ⊥) → ((name : List ℕ) → IsNamed line name → ⊥) → (command : Command) → IsCommand line command → ⊥
-no_command line show go stack regs store (Go n) is = go n is
-no_command line show go stack regs store (Store name) is = store name is
-no_command line show go stack regs store Show is = show is
-no_command line show go stack regs store (Stack p) is = stack p is
-no_command line show go stack regs store (Regs p) is = regs p is
-
 -- ---- lines
-
-split_at : (bytes : List ℕ) (place : ℕ) → place < length bytes → get_or bytes place 0 ≡ 10 → bytes ≡ take place bytes ++ 10 ∷ drop (suc place) bytes
-split_at [] place l e = absurd (omega (arith, l))
-split_at (b ∷ bs) zero l e = ap (λ (x : ℕ). x ∷ bs) e
-split_at (b ∷ bs) (suc place) l e = ap (λ (xs : List ℕ). b ∷ xs) (split_at bs place (omega (arith, l)) e)
-
--- a line that an LF ends
-pub ended_line : (bytes : List ℕ) (place : ℕ) → bytes ≢ [] → place < length bytes → get_or bytes place 0 ≡ 10 → ((k : ℕ) → k < place → get_or bytes k 0 ≢ 10)
-    → IsFirstLine bytes (take place bytes) (drop (place + 1) bytes)
-ended_line bytes place some within is lacks =
-    let size : length (take place bytes) ≡ place = length-take-le place bytes (omega (arith, within)) in
-    let next : suc place ≡ place + 1 = omega arith in
-    record {
-      some = some;
-      whole = λ k l e. let before : k < place = omega (arith, l, size) in lacks k before (sym (get_or-take place bytes k 0 before) ∙ e);
-      ends = inl (split_at bytes place within is ∙ ap (λ (n : ℕ). take place bytes ++ 10 ∷ drop n bytes) next);
-    }
-
--- the last line, which none ends
-pub last_line : (bytes rest : List ℕ) → bytes ≢ [] → ((k : ℕ) → k < length bytes → get_or bytes k 0 ≢ 10) → rest ≡ [] → IsFirstLine bytes bytes rest
-last_line bytes rest some lacks e = record { some = some; whole = lacks; ends = inr (refl, e) }
-
-nothing_shorter : (text line rest : List ℕ) → text ≡ line ++ 10 ∷ rest → length rest < length text
-nothing_shorter text line rest e =
-    let size : length text ≡ length (line ++ 10 ∷ rest) = ap length e in
-    let sum : length (line ++ 10 ∷ rest) ≡ length line + length (10 ∷ rest) = length-append line (10 ∷ rest) in
-    let one : length (10 ∷ rest) ≡ suc (length rest) = refl in omega (arith, size, sum, one)
-
-none_shorter : (text line rest : List ℕ) → text ≢ [] → rest ≡ [] → length rest < length text
-none_shorter [] line rest some e = absurd (some refl)
-none_shorter (b ∷ bs) line rest some e = let none : length rest ≡ 0 = ap length e in omega (arith, none)
-
--- what stands after a line is shorter
-pub shorter : (text line rest : List ℕ) → IsFirstLine text line rest → length rest < length text
-shorter text line rest first = elim first.ends [ inl e ↦ nothing_shorter text line rest e | inr e ↦ none_shorter text line rest first.some e.1 ]
 
 -- ---- texts
 
@@ -141,11 +84,3 @@ stands_more text left line rest before after command s first may e =
           let one : length (command ∷ []) ≡ 1 = refl in omega (arith, sum, one, may.0);
     }
     )
-
-pub stands_bad : (text left line rest : List ℕ) (before : List Command) (number : ℕ) → Stands text before left → IsFirstLine left line rest
-    → MayStandNext line (length before) None → number ≡ length before + 1 → IsBadLine text number
-stands_bad text left line rest before number s first bad is =
-    record { before = before; left = left; begin = s.begin; line = line; rest = rest; first = first; is = is; few = s.few; bad = bad }
-
-pub stands_last : (text rest : List ℕ) (commands : List Command) → Stands text commands rest → rest ≡ [] → AreCommands text commands
-stands_last text rest commands s e = record { begin = subst (λ (bs : List ℕ). Begin text commands bs) e s.begin; few = s.few }

@@ -1,8 +1,9 @@
 -- Notes lead where the entries themselves do.
-use Rattle.std.proofs.Common.{◌≡◌, ◌≢◌, refl, sym, ap, ◌∙◌, subst, ℕ, zero, suc, ◌+◌, ◌<◌, ◌≤◌, ◌&&◌, nat_eq, nat_lt, List, [], ◌∷◌, length, drop, Bool, true, false, Option, Some, None, arith}
+use Rattle.std.proofs.Common.{◌≡◌, ◌≢◌, refl, sym, ap, ◌∙◌, subst, ℕ, zero, suc, ◌+◌, ◌<◌, ◌≤◌, nat_eq, nat_lt, List, [], ◌∷◌, length, drop, Bool, true, false, Option, Some, None, arith}
 use Rattle.std.specs.Prelude.{◌↔◌, IsTrue, if◌then◌else◌, slice_get}
 use Rattle.std.proofs.lemmas.Bool.Decides.{nat_tests}
 use Rattle.algol_tree.specs.Sorts.{same_name}
+use Rattle.algol_tree.proofs.Names.{same_name_is, same_name_itself}
 use Rattle.b67_commands.specs.declared.command.Command.{Command}
 use Rattle.b67_commands.specs.declared.command.Command.TheVariants.{Go, Store, Show, Stack, Regs}
 use Rattle.b67_commands.specs.declared.noting.Note.{Note}
@@ -11,32 +12,16 @@ use Rattle.b67_commands.specs.Noting.{looks_for, looked_from, looked_for, looked
 
 -- ---- names
 
-same_from : (m n : List ℕ) → same_name m n ≡ true → m ≡ n
-same_from [] [] e = refl
-same_from [] (b ∷ n) e = let wrong : false ≡ true = e in cc
-same_from (a ∷ m) [] e = let wrong : false ≡ true = e in cc
-same_from (a ∷ m) (b ∷ n) e = by_first (nat_eq a b) refl e (same_from m n)
-  where
-    by_first : (x : Bool) → nat_eq a b ≡ x → (x && same_name m n) ≡ true → (same_name m n ≡ true → m ≡ n) → a ∷ m ≡ b ∷ n
-    by_first true p q rest =
-        let head : a ≡ b = grind (arith, nat_tests, p) in
-        ap (λ (x : ℕ). x ∷ m) head ∙ ap (λ (xs : List ℕ). b ∷ xs) (rest q)
-    by_first false p q rest = let wrong : false ≡ true = q in cc
-
-itself : (n : List ℕ) → same_name n n ≡ true
-itself [] = refl
-itself (a ∷ n) = let here : nat_eq a a ≡ true = grind (arith, nat_tests) in rw here (itself n)
-
 pub decides : (r : Bool) (a b : List ℕ) → IsTrue r ↔ (a ≡ b) → r ≡ same_name a b
-decides true a b d = let same : a ≡ b = d.0 refl in sym (ap (same_name a) (sym same) ∙ itself a)
+decides true a b d = let same : a ≡ b = d.0 refl in sym (ap (same_name a) (sym same) ∙ same_name_itself a)
 decides false a b d = by_same (same_name a b) refl
   where
     by_same : (x : Bool) → same_name a b ≡ x → false ≡ x
     by_same false p = refl
-    by_same true p = d.1 (same_from a b p)
+    by_same true p = d.1 (same_name_is a b p)
 
 looks_so : (command : Command) (name : List ℕ) → looks_for command name ≡ true → command ≡ Store name
-looks_so (Store other) name e = ap (λ (xs : List ℕ). Store xs) (same_from other name e)
+looks_so (Store other) name e = ap (λ (xs : List ℕ). Store xs) (same_name_is other name e)
 looks_so (Go n) name e = let wrong : false ≡ true = e in cc
 looks_so Show name e = let wrong : false ≡ true = e in cc
 looks_so (Stack p) name e = let wrong : false ≡ true = e in cc
@@ -83,7 +68,7 @@ module _ (commands : List Command) (name : List ℕ) (place k : ℕ) (looked : l
       by_same : (x : Bool) → same_name other name ≡ x → x ≡ false
       by_same false p = refl
       by_same true p =
-          let same : other ≡ name = same_from other name p in
+          let same : other ≡ name = same_name_is other name p in
           let found : looked_for commands other ≡ Some place = ap (looked_for commands) same ∙ looked in cc
 
   -- the note of an entry is of this name exactly where it stores under it
@@ -95,13 +80,13 @@ module _ (commands : List Command) (name : List ℕ) (place k : ℕ) (looked : l
       by_same true true p q = refl
       by_same false false p q = refl
       by_same true false p q =
-          let found : looked_for commands stored ≡ Some place = ap (looked_for commands) (same_from stored name p) ∙ looked in
+          let found : looked_for commands stored ≡ Some place = ap (looked_for commands) (same_name_is stored name p) ∙ looked in
           let same : other ≡ place = cc in
           let wrong : other ≢ place = grind (arith, nat_tests, q) in absurd (wrong same)
       by_same false true p q =
           let same : other ≡ place = grind (arith, nat_tests, q) in
           let one : stored ≡ name = one_name 0 commands stored name place (e ∙ ap (λ (x : ℕ). Some x) same) looked in
-          let holds : same_name stored name ≡ true = ap (λ (xs : List ℕ). same_name xs name) one ∙ itself name in cc
+          let holds : same_name stored name ≡ true = ap (λ (xs : List ℕ). same_name xs name) one ∙ same_name_itself name in cc
 
   abbrev next_of : List Note → ℕ → ℕ
   next_of notes all = next_noted notes all k place
@@ -168,7 +153,7 @@ found_from first (command ∷ commands) place name at none = by_first (looks_for
         → ((n : ℕ) → slice_get commands n ≡ Some (Store name) → looked_from (first + 1) commands name ≡ None → ⊥) → ⊥
     by_place zero at lacks none later =
         let same : command ≡ Store name = cc in
-        let holds : looks_for command name ≡ true = ap (λ (c : Command). looks_for c name) same ∙ itself name in
+        let holds : looks_for command name ≡ true = ap (λ (c : Command). looks_for c name) same ∙ same_name_itself name in
         let wrong : true ≡ false = sym holds ∙ lacks in cc
     by_place (suc n) at lacks none later = later n at none
 

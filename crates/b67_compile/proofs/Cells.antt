@@ -15,7 +15,7 @@ use Rattle.algol_tree.specs.Sites as site
 use Rattle.algol_tree.specs.Sites.{Part, Site}
 use Rattle.algol_tree.specs.Surroundings.{Surroundings}
 use Rattle.b67_emit_text.specs.Texts.{Text}
-use Rattle.b67_fitting.proofs.Lists.{each_back, each_both, each_front}
+use Rattle.b67_list.proofs.Lists.{each_back, each_both, each_front}
 use Rattle.b67_compile.proofs.Matching.{Triples, segs}
 
 module _ (blocks : List Block) (all : List Site) where

@@ -12,7 +12,7 @@ use Rattle.algol_paths.specs.Segments.{is_procedure, procedures_before, segment_
 use Rattle.b67_templates.specs.Labels.{labels_in}
 use Rattle.b67_emit_text.specs.Entries.{DeclaredLabel, own_entries, entries_in_stmt, entries_in_stmts, entries_of}
 use Rattle.b67_emit_text.specs.Texts.{Text, procedure_text, texts_of, texts_in_stmts, texts_in_decls}
-use Rattle.b67_fitting.proofs.Lists.{each_front, each_back}
+use Rattle.b67_list.proofs.Lists.{each_back, each_front}
 
 -- those of a text
 abbrev pub entries_in_text : Text → List DeclaredLabel

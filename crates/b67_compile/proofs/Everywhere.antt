@@ -14,8 +14,8 @@ use Rattle.algol_tree.specs.Sites as site
 use Rattle.algol_tree.specs.Sites.{Part, Site, actual_part, first_formal, other_formals, name_part, wants_value, sites, inside_expr, inside_list, inside_actuals, sites_in_pairs, here_stmt, has_decls, inside_stmt, sites_in_stmts, inside_decl, sites_in_decls}
 use Rattle.algol_tree.specs.Sorts.{Declared}
 use Rattle.algol_tree.specs.Surroundings.{Surroundings, declared_as, knowing, inside_procedure}
-use Rattle.algol_told.proofs.Lists.{all-append, all-weaker, of-each}
-use Rattle.algol_told.proofs.Told.{all-found}
+use Rattle.algol_tree.proofs.Trees.{found_known}
+use Rattle.algol_told.proofs.Lists.{all_append, all_weaker, of_each}
 use Rattle.algol_told.proofs.Walk.{Behind, HoldsAt}
 
 module _ (blocks : List Block) (Q : Declared → Type 0) where
@@ -27,16 +27,16 @@ module _ (blocks : List Block) (Q : Declared → Type 0) where
 
   right_one : (a : Surroundings) (n : Named) → All a → (o : Option Declared) → declared_as a n ≡ o → AllByRecursion IsRight (known_by n.spot o)
   right_one a n h None e = tt
-  right_one a n h (Some d) e = (all-found Q a.known n.name d h e, tt)
+  right_one a n h (Some d) e = (found_known Q a.known n.name d h e, tt)
 
   right_names : (a : Surroundings) (ns : List Named) → All a → AllByRecursion IsRight (known_names a ns)
   right_names a [] h = tt
-  right_names a (n ∷ ns) h = all-append IsRight (known_by n.spot (declared_as a n)) (known_names a ns) (right_one a n h (declared_as a n) refl) (right_names a ns h)
+  right_names a (n ∷ ns) h = all_append IsRight (known_by n.spot (declared_as a n)) (known_names a ns) (right_one a n h (declared_as a n) refl) (right_names a ns h)
 
   right_heading : (g : Heading) (a : Surroundings) → All a → AllByRecursion IsRight (known_in_heading g a)
   right_heading g a h =
-      all-append IsRight (known_names a g.params ++ known_names a g.values) (known_names a (specified g))
-      (all-append IsRight (known_names a g.params) (known_names a g.values) (right_names a g.params h) (right_names a g.values h)) (right_names a (specified g) h)
+      all_append IsRight (known_names a g.params ++ known_names a g.values) (known_names a (specified g))
+      (all_append IsRight (known_names a g.params) (known_names a g.values) (right_names a g.params h) (right_names a g.values h)) (right_names a (specified g) h)
 
   right_decl : (d : PDecl) (later : PDecls) (a : Surroundings) → Behind blocks All (site.declaration d later) a → AllByRecursion IsRight (known_in_decl blocks d (knowing blocks d later a))
   right_decl (tree.simple kind ns) later a h = right_names (knowing blocks (tree.simple kind ns) later a) ns h
@@ -49,7 +49,7 @@ module _ (blocks : List Block) (Q : Declared → Type 0) where
   right_decl (tree.procedure g s) later a h =
       let n : Surroundings = knowing blocks (tree.procedure g s) later a in
       let i : Surroundings = inside_procedure blocks g n in
-      all-append IsRight (known_names n (g.name ∷ [])) (known_in_heading g i) (right_names n (g.name ∷ []) h.0) (right_heading g i h.1)
+      all_append IsRight (known_names n (g.name ∷ [])) (known_in_heading g i) (right_names n (g.name ∷ []) h.0) (right_heading g i h.1)
 
   right_part : (x : Part) (a : Surroundings) → All a → Behind blocks All x a → AllByRecursion IsRight (known_at blocks (record { part = x; around = a }))
   right_part (site.declaration d later) a h b = right_decl d later a b
@@ -70,5 +70,5 @@ module _ (blocks : List Block) (Q : Declared → Type 0) where
   pub everywhere : (places : List Site) → AllByRecursion (HoldsAt blocks All) places → (spot : Spot) (d : Declared) → known_there (flat_map (known_at blocks) places) spot ≡ Some d → Q d
   everywhere places hold spot d known =
       right_found (flat_map (known_at blocks) places) spot d
-      (of-each IsRight (known_at blocks) places
-      (all-weaker (HoldsAt blocks All) (λ (x : Site). AllByRecursion IsRight (known_at blocks x)) (λ x h. right_part x.part x.around h.around h.behind) places hold)) known
+      (of_each IsRight (known_at blocks) places
+      (all_weaker (HoldsAt blocks All) (λ (x : Site). AllByRecursion IsRight (known_at blocks x)) (λ x h. right_part x.part x.around h.around h.behind) places hold)) known

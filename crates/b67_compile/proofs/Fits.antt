@@ -18,8 +18,8 @@ use Rattle.algol_tree.specs.Sites.{Part, Site, actual_part, first_formal, other_
 use Rattle.algol_tree.specs.Sorts as sort
 use Rattle.algol_tree.specs.Sorts.{Declared, Sort, specified_by, class_by, class_in, sort_in, is_named_in, declare, declared_parameters}
 use Rattle.algol_tree.specs.Surroundings.{Surroundings, made_known, knowing, inside_procedure}
-use Rattle.algol_told.proofs.Lists.{all-append}
-use Rattle.algol_told.proofs.Walk.{all-hold}
+use Rattle.algol_told.proofs.Lists.{all_append}
+use Rattle.algol_told.proofs.Walk.{all_hold}
 use Rattle.b67_compile.proofs.Everywhere.{All, everywhere}
 
 abbrev pub fits : Class → Sort → Bool
@@ -77,16 +77,16 @@ module _ (blocks : List Block) where
 
   knows : (d : PDecl) (ds : PDecls) (a : Surroundings) (begun : List Declared) → All blocks IsFit a → AllByRecursion Passes (sites_in_decls blocks (tree.decls d ds) a begun) →
       All blocks IsFit (knowing blocks d ds a)
-  knows d ds a begun h p = all-append IsFit (made_known blocks d ds a) a.known (made_fit d ds a) h
+  knows d ds a begun h p = all_append IsFit (made_known blocks d ds a) a.known (made_fit d ds a) h
 
   enters : (h : Heading) (s : PStmt) (ds : PDecls) (a : Surroundings) → All blocks IsFit (knowing blocks (tree.procedure h s) ds a) →
       Passes (record { part = site.declaration (tree.procedure h s) ds; around = a }) → All blocks IsFit (inside_procedure blocks h (knowing blocks (tree.procedure h s) ds a))
   enters h s ds a k p =
       let n : Surroundings = knowing blocks (tree.procedure h s) ds a in
-      all-append IsFit (declared_parameters (number_at blocks h.name.spot) (n.depth + 1) h) n.known (parameters_fit (number_at blocks h.name.spot) (n.depth + 1) h h.params) k
+      all_append IsFit (declared_parameters (number_at blocks h.name.spot) (n.depth + 1) h) n.known (parameters_fit (number_at blocks h.name.spot) (n.depth + 1) h h.params) k
 
 pub fit_known : (p : PProgram) (spot : Spot) (d : Declared) → known_there (flat_map (known_at (blocks_of_program p)) (sites_of p)) spot ≡ Some d → IsFit d
 fit_known p spot d known =
     let blocks = blocks_of_program p in
-    let hold = all-hold blocks (All blocks IsFit) (Passes blocks) (begins blocks) (knows blocks) (enters blocks) p tt (all_pass blocks (sites_of p)) in
+    let hold = all_hold blocks (All blocks IsFit) (Passes blocks) (begins blocks) (knows blocks) (enters blocks) p tt (all_pass blocks (sites_of p)) in
     everywhere blocks IsFit (sites_of p) hold spot d known

@@ -17,8 +17,10 @@ use Rattle.algol_tree.specs.Plain.{PDecl, PProgram}
 use Rattle.algol_tree.specs.Sites as site
 use Rattle.algol_tree.specs.Sites.{Part, Site}
 use Rattle.algol_tree.specs.Surroundings.{Surroundings}
-use Rattle.b67_fitting.proofs.Lists.{each_both, nil_back, nil_each, nil_front, nil_map, not_so}
+use Rattle.algol_tree.proofs.Spots.{not_so}
+use Rattle.b67_fitting.proofs.Lists.{nil_each}
 use Rattle.b67_fitting.proofs.SurroundedSites.{IsSurrounded}
+use Rattle.b67_list.proofs.Lists.{append_none_left, append_none_right, each_both, none_mapped}
 
 -- ---- where an actual with a cell stands
 
@@ -121,4 +123,4 @@ module _ (blocks : List Block) (all : List Site) where
 -- no actual is too deep
 pub none_deep : (p : PProgram) → Accepted p → flat_map deep_actuals (sites_of p) ≡ []
 unfolding scope_faults
-none_deep p accepted = nil_back _ _ (nil_map _ _ (nil_back _ _ (nil_front _ _ (nil_front _ _ (nil_front _ _ accepted.scoped)))))
+none_deep p accepted = append_none_right _ _ (none_mapped _ _ (append_none_right _ _ (append_none_left _ _ (append_none_left _ _ (append_none_left _ _ accepted.scoped)))))

@@ -8,15 +8,15 @@ use Rattle.algol_tree.specs.Blocks.{Block, block_numbered, number_at}
 use Rattle.algol_tree.specs.Cells.{level_of}
 use Rattle.algol_tree.specs.Scopes.{Scopes}
 use Rattle.algol_tree.specs.Sorts.{same_name}
-use Rattle.algol_meaning.proofs.Naming.{same_name-is}
+use Rattle.algol_tree.proofs.Names.{same_name_is}
+use Rattle.algol_tree.proofs.Trees.{block_is}
 use Rattle.algol_paths.specs.Segments.{segment_of}
 use Rattle.b67_templates.specs.Labels.{labels_in, labels_before, label_from, label_number}
 use Rattle.b67_emit_text.specs.Entries.{DeclaredLabel}
 use Rattle.b67_emit_text.specs.Texts.{Text}
-use Rattle.b67_fitting.proofs.Numbering.{block_is}
+use Rattle.b67_list.proofs.Lists.{get_front, slice_either}
 use Rattle.b67_compile.proofs.Entries.{chosen, entries_in_text, entries_numbered, numbered_none, segment_at, entries_by, entries_among, among_both}
 use Rattle.b67_fitting.proofs.ActualsCelled.{got_map}
-use Rattle.b67_rows.proofs.StackWords.{get-front}
 
 -- ---- lists
 
@@ -51,7 +51,7 @@ found_label k (n ∷ ns) name number h = by (same_name n.name name) refl (found_
         (if b then Some k else label_from (k + 1) ns name) ≡ Some number → (i : ℕ) × (m : Named) × (slice_get (n ∷ ns) i ≡ Some m) × (number ≡ k + i) × (m.name ≡ name)
     by true e later g =
         let same : k ≡ number = cc in
-        (0, n, refl, omega (arith, same), same_name-is n.name name e)
+        (0, n, refl, omega (arith, same), same_name_is n.name name e)
     by false e later g =
         let r = later g in
         (suc r.0, r.1, r.2, omega (arith, r.3), r.4)
@@ -103,7 +103,7 @@ module _ (sc : Scopes) (there : (j : ℕ) → j < length sc.blocks → slice_get
       ap (λ (es : List DeclaredLabel). slice_get es (labels_before sc k j + i)) whole
       ∙ ap (λ (m : ℕ). slice_get (entries_among blocks k (take j blocks) ++ (own_list ++ rest)) (m + i)) (sym (before_many k j (omega (arith, h))))
       ∙ slice_later (entries_among blocks k (take j blocks)) (own_list ++ rest) i
-      ∙ get-front own_list rest i (record { level = level_of b; name = n; stmts = b.stmts })
+      ∙ get_front own_list rest i (record { level = level_of b; name = n; stmts = b.stmts })
       (got_map (λ (m : Named). record { level = level_of b; name = m; stmts = b.stmts }) (labels_in b.decls) i n e)
 
   pub record IsEntry (j number : ℕ) (name : List ℕ) : Type 0 where
@@ -122,16 +122,6 @@ module _ (sc : Scopes) (there : (j : ℕ) → j < length sc.blocks → slice_get
       }
 
 -- ---- entries by their places
-
-slice_either : {X : Type 0} (xs ys : List X) (i : ℕ) (x : X) → slice_get (xs ++ ys) i ≡ Some x → (slice_get xs i ≡ Some x) ⊎ ((m : ℕ) × (i ≡ length xs + m) × (slice_get ys m ≡ Some x))
-slice_either [] ys i x h = let same : i ≡ 0 + i = omega arith in inr (i, same, h)
-slice_either (z ∷ xs) ys zero x h = inl h
-slice_either (z ∷ xs) ys (suc i) x h = later (slice_either xs ys i x h)
-  where
-    later : (slice_get xs i ≡ Some x) ⊎ ((m : ℕ) × (i ≡ length xs + m) × (slice_get ys m ≡ Some x)) →
-        (slice_get (z ∷ xs) (suc i) ≡ Some x) ⊎ ((m : ℕ) × (suc i ≡ length (z ∷ xs) + m) × (slice_get ys m ≡ Some x))
-    later (inl g) = inl g
-    later (inr (m, e, g)) = inr (m, omega (arith, e), g)
 
 slice_unmap : {X Y : Type 0} (f : X → Y) (xs : List X) (i : ℕ) (y : Y) → slice_get (map f xs) i ≡ Some y → (x : X) × (slice_get xs i ≡ Some x) × (f x ≡ y)
 slice_unmap f [] i y h = absurd (let clash : None ≡ Some y = h in cc)
@@ -260,7 +250,7 @@ of_text first (u ∷ ts) zero number t e h g =
     let same : u ≡ t = cc in
     let on : nat_eq first (first + 0) ≡ true = grind (arith, nat_tests) in
     ap (λ (b : Bool). slice_get (chosen b (entries_in_text u) ++ entries_numbered (first + 1) ts (first + 0)) number) on
-    ∙ get-front (entries_in_text u) (entries_numbered (first + 1) ts (first + 0)) number e (ap (λ (z : Text). slice_get (entries_in_text z) number) same ∙ g)
+    ∙ get_front (entries_in_text u) (entries_numbered (first + 1) ts (first + 0)) number e (ap (λ (z : Text). slice_get (entries_in_text z) number) same ∙ g)
 of_text first (u ∷ ts) (suc k) number t e h g =
     let off : nat_eq first (first + suc k) ≡ false = grind (arith, nat_tests) in
     let same : first + suc k ≡ first + 1 + k = omega arith in

@@ -18,14 +18,16 @@ use Rattle.algol_tree.specs.Sites.{has_decls, sites_in_decls, sites_in_stmts}
 use Rattle.algol_tree.specs.Sorts as sort
 use Rattle.algol_tree.specs.Sorts.{Declared}
 use Rattle.algol_tree.specs.Surroundings.{outermost, knowing_all}
+use Rattle.algol_tree.proofs.Spots.{same_spot_is, same_spot_itself}
+use Rattle.algol_tree.proofs.Trees.{block_is, got_numbered}
 use Rattle.algol_frames.specs.declared.scopes.Declared as found
 use Rattle.algol_scope.specs.Resolved.{AreOf, couple, declaration_of, located}
 use Rattle.algol_paths.specs.Arrays.{Lows, lows_at, lows_declared, or_lows}
 use Rattle.algol_paths.specs.Segments.{segment_of}
 use Rattle.algol_lows.specs.Lows.{lows_found_under}
 use Rattle.algol_told.proofs.Held.{Passes}
-use Rattle.algol_told.proofs.Places.{declared-there, names_known}
-use Rattle.algol_told.proofs.Told.{all-pass}
+use Rattle.algol_told.proofs.Places.{declared_there, names_known}
+use Rattle.algol_told.proofs.Told.{all_pass}
 use Rattle.b67_templates.specs.Fitting.{meant_is_event}
 use Rattle.b67_templates.specs.Labels.{labels_in, labels_before, label_number, table_place}
 use Rattle.b67_emitter.specs.declared.names.Names.{Names}
@@ -37,17 +39,16 @@ use Rattle.b67_emit_text.specs.Targets.{or_target, target_at, targets_from, targ
 use Rattle.b67_emit_text.specs.Texts.{Text, texts}
 use Rattle.b67_fitting.specs.Fitted.{AreTargets, declared_at, meant_as, target_numbered, target_of}
 use Rattle.b67_templates.specs.Names.{HasNames}
-use Rattle.b67_fitting.proofs.Apart.{IsIn, same_place}
-use Rattle.b67_fitting.proofs.Lists.{each_front, each_back, each_both}
-use Rattle.b67_fitting.proofs.Numbering.{block_is, each_at, same_self}
+use Rattle.b67_fitting.proofs.Apart.{IsIn}
 use Rattle.b67_fitting.proofs.SurroundedSites.{each_number}
+use Rattle.b67_list.proofs.Lists.{each_at, each_back, each_both, each_front}
+use Rattle.b67_list.proofs.Numbers.{some_same}
 use Rattle.b67_compile.proofs.Entries.{entries_in_text, entries_numbered, entries_among}
 use Rattle.b67_compile.proofs.LabelPlaces.{IsLabelOf, label_of_entry, entry_at, in_text, of_text}
 use Rattle.b67_compile.proofs.Labelled.{entries_are}
 use Rattle.b67_compile.proofs.LabelsDeclared.{InBlocks, label_in_blocks}
 use Rattle.b67_compile.proofs.LabelsKnown.{first_of, HasLabels, IsRow, IsLabelThere, decls_labels, stmts_labels, same_depth}
 use Rattle.b67_compile.proofs.Meanings.{all_held, held_found, known_from, meant_known}
-use Rattle.b67_fitting.proofs.Fits.{got_numbered}
 
 -- ---- in a list of texts
 
@@ -67,7 +68,7 @@ from_entry text number (e ∷ es) spot t h = by (λ g. from_entry text (number +
     by f true same g =
         let here : number ≡ number + 0 = omega arith in
         let one : target_at text number e ≡ t = cc in
-        record { index = 0; entry = e; there = refl; at = same_place e.name.spot spot same; is = ap (λ (n : ℕ). target_at text n e) (sym here) ∙ one }
+        record { index = 0; entry = e; there = refl; at = same_spot_is e.name.spot spot same; is = ap (λ (n : ℕ). target_at text n e) (sym here) ∙ one }
     by f false other g =
         let r = f g in
         let on : number + suc r.index ≡ number + 1 + r.index = omega arith in
@@ -78,7 +79,7 @@ some_entry : (text number : ℕ) (es : List DeclaredLabel) (index : ℕ) (e : De
 some_entry text number [] index e h none = let clash : None ≡ Some e = h in cc
 some_entry text number (f ∷ es) zero e h none =
     let same : f ≡ e = cc in
-    let on : same_spot f.name.spot e.name.spot ≡ true = ap (λ (z : DeclaredLabel). same_spot z.name.spot e.name.spot) same ∙ same_self e.name.spot in
+    let on : same_spot f.name.spot e.name.spot ≡ true = ap (λ (z : DeclaredLabel). same_spot z.name.spot e.name.spot) same ∙ same_spot_itself e.name.spot in
     let clash : Some (target_at text number f) ≡ None =
     ap (λ (b : Bool). or_target (if b then Some (target_at text number f) else None) (targets_from text (number + 1) es e.name.spot)) (sym on) ∙ none in
     cc
@@ -137,9 +138,6 @@ some_text first (u ∷ ts) number place text e h g none =
 
 -- ---- lists
 
-some_same : {X : Type 0} (x y : X) → Some x ≡ Some y → x ≡ y
-some_same x y e = cc
-
 index_of : {X : Type 0} (x : X) (xs : List X) → IsIn x xs → (i : ℕ) × (slice_get xs i ≡ Some x)
 index_of x [] i = absurd i
 index_of x (y ∷ ys) (inl e) = (0, ap Some (sym e))
@@ -186,9 +184,9 @@ module _ (at : Spot) (ds : PDecls) (ss : PStmts) (names : Names) (order : IsInOr
       let xs = sites_in_decls blocks ds outermost [] in
       let after = knowing_all blocks ds outermost in
       let ys = sites_in_stmts blocks ss (has_decls ds) after in
-      let pass = all-pass p order names.scopes.now are in
+      let pass = all_pass p order names.scopes.now are in
       let f = decls_labels blocks all ds outermost [] [] (at ∷ []) refl tt (λ name off. tt) (each_front (Passes blocks all) xs ys pass) in
-      let first : number_at blocks at ≡ 0 = ap (λ (b : Bool). if b then 0 else number_at (blocks_in_decls ds (at ∷ []) ++ blocks_in_stmts ss (at ∷ [])) at + 1) (same_self at) in (
+      let first : number_at blocks at ≡ 0 = ap (λ (b : Bool). if b then 0 else number_at (blocks_in_decls ds (at ∷ []) ++ blocks_in_stmts ss (at ∷ [])) at + 1) (same_spot_itself at) in (
         record { rows = f.rows; there = subst (λ (n : ℕ). AllByRecursion (IsLabelThere blocks all n 0) (labels_in ds)) (sym first) f.there; fresh = f.fresh },
         each_both (HasLabels blocks all) (blocks_in_decls ds (at ∷ [])) (blocks_in_stmts ss (at ∷ [])) f.inner
             (stmts_labels blocks all ss (has_decls ds) after (at ∷ []) (ap (λ (n : ℕ). n + 1) (same_depth blocks all ds outermost)) f.after (each_back (Passes blocks all) xs ys pass)),
@@ -290,7 +288,7 @@ module _ (at : Spot) (ds : PDecls) (ss : PStmts) (names : Names) (order : IsInOr
         by (Some t) e = found_target t e
 
   pub targets_known : table.AreTargets ts names.labels → AreTargets p (labels names)
-  targets_known there spot d h = by (declaration_of names.scopes.now spot) (are.declarations spot ∙ declared-there p spot d known)
+  targets_known there spot d h = by (declaration_of names.scopes.now spot) (are.declarations spot ∙ declared_there p spot d known)
     where
       known : known_there all spot ≡ Some d
       known = known_from p spot d h

@@ -8,18 +8,17 @@ use Rattle.algol_tree.specs.Cells.{level_of}
 use Rattle.algol_tree.specs.Plain as tree
 use Rattle.algol_tree.specs.Plain.{PDecls, PStmts, PProgram}
 use Rattle.algol_tree.specs.Scopes.{scopes_of}
+use Rattle.algol_tree.proofs.Trees.{block_is, got_numbered}
 use Rattle.algol_paths.specs.Segments.{segment_of}
 use Rattle.b67_ops.specs.declared.TheConstants.{OUTER_LEVEL}
 use Rattle.b67_templates.specs.Labels.{label_number}
 use Rattle.b67_emit_text.specs.Entries.{DeclaredLabel, entries_in_stmts}
 use Rattle.b67_emit_text.specs.Texts.{Text, texts, texts_in_body}
 use Rattle.b67_templates.specs.Names.{HasNames}
-use Rattle.b67_fitting.proofs.Numbering.{block_is}
 use Rattle.b67_fitting.proofs.SurroundedSites.{each_number}
 use Rattle.b67_compile.proofs.Entries.{entries_in_text, entries_numbered, entries_among, IsOwn, AreOwn, AreNumbered, Stands, have_block, stands_plain, stands_within, body_has}
 use Rattle.b67_compile.proofs.LabelPlaces.{IsEntry, numbered_entry, InText, in_text}
 use Rattle.b67_compile.proofs.Places.{text_block}
-use Rattle.b67_fitting.proofs.Fits.{got_numbered}
 use Rattle.b67_fitting.proofs.ActualsCelled.{each_by}
 
 each_numbered : (blocks : List Block) (first : ℕ) (ts : List Text) → ((i : ℕ) (t : Text) → slice_get ts i ≡ Some t → segment_of blocks (number_at blocks t.spot) ≡ first + i) → AreNumbered blocks first ts

@@ -19,11 +19,11 @@ use Rattle.algol_tree.specs.Sorts as sort
 use Rattle.algol_tree.specs.Sorts.{Declared, Sort, specified_by, class_by, class_in, sort_in, is_named_in, declare, declared_parameters}
 use Rattle.algol_tree.specs.Surroundings.{Surroundings, outermost, formals_at, announced, made_known, knowing, knowing_all, inside_procedure}
 use Rattle.algol_told.specs.Parameters.{PartHas, HasAt}
-use Rattle.algol_told.proofs.Lists.{all-append}
-use Rattle.algol_told.proofs.Walk.{all-hold}
+use Rattle.algol_told.proofs.Lists.{all_append}
+use Rattle.algol_told.proofs.Walk.{all_hold}
 use Rattle.b67_templates.specs.Labels.{labels_in}
 use Rattle.b67_fitting.proofs.Apart.{IsIn, in_front, in_back}
-use Rattle.b67_fitting.proofs.Lists.{each_both}
+use Rattle.b67_list.proofs.Lists.{each_both}
 use Rattle.b67_compile.proofs.Everywhere.{everywhere}
 
 abbrev pub is_block : PStmt → Bool
@@ -255,13 +255,13 @@ module _ (blocks : List Block) where
   begins spot a h = h
 
   knows : (d : PDecl) (ds : PDecls) (a : Surroundings) (begun : List Declared) → AllOnes a → AllByRecursion Passes (sites_in_decls blocks (tree.decls d ds) a begun) → AllOnes (knowing blocks d ds a)
-  knows d ds a begun h p = all-append IsOne (made_known blocks d ds a) a.known (made_are d ds a p.0) h
+  knows d ds a begun h p = all_append IsOne (made_known blocks d ds a) a.known (made_are d ds a p.0) h
 
   enters : (h : Heading) (s : PStmt) (ds : PDecls) (a : Surroundings) → AllOnes (knowing blocks (tree.procedure h s) ds a) →
       Passes (record { part = site.declaration (tree.procedure h s) ds; around = a }) → AllOnes (inside_procedure blocks h (knowing blocks (tree.procedure h s) ds a))
   enters h s ds a k p =
       let n : Surroundings = knowing blocks (tree.procedure h s) ds a in
-      all-append IsOne (declared_parameters (number_at blocks h.name.spot) (n.depth + 1) h) n.known (parameters_are (number_at blocks h.name.spot) (n.depth + 1) h h.params) k
+      all_append IsOne (declared_parameters (number_at blocks h.name.spot) (n.depth + 1) h) n.known (parameters_are (number_at blocks h.name.spot) (n.depth + 1) h h.params) k
 
 -- a label that is known somewhere in a program is one that a block declares
 pub label_in_blocks : (at : Spot) (ds : PDecls) (ss : PStmts) (spot : Spot) (d : Declared) →
@@ -273,5 +273,5 @@ label_in_blocks at ds ss spot d known is =
     let blocks = blocks_of_program p in
     let first : Block = outer_block (tree.body at ds ss) in
     let have = body_have blocks ds ss outermost (at ∷ []) (λ b i. inr i) (λ n i. record { in_block = first; there = inl refl; one = n; among = i; at = refl }) in
-    let hold = all-hold blocks (AllOnes blocks) (Passes blocks) (begins blocks) (knows blocks) (enters blocks) p tt have in
+    let hold = all_hold blocks (AllOnes blocks) (Passes blocks) (begins blocks) (knows blocks) (enters blocks) p tt have in
     everywhere blocks (IsOne blocks) (sites_of p) hold spot d known is

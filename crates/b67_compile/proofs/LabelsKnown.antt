@@ -18,14 +18,14 @@ use Rattle.algol_tree.specs.Sites.{Site, sites, has_decls, here_stmt, inside_stm
 use Rattle.algol_tree.specs.Sorts as sort
 use Rattle.algol_tree.specs.Sorts.{Declared, same_name, specified_by, class_by, class_in, sort_in, is_named_in, declare}
 use Rattle.algol_tree.specs.Surroundings.{Surroundings, made_known, knowing, knowing_all, inside_procedure}
+use Rattle.algol_tree.proofs.Names.{same_name_itself}
+use Rattle.algol_tree.proofs.Spots.{not_so, same_spot_is}
 use Rattle.algol_paths.specs.Arrays.{Lows, Shape, shape_by, shape_in, stands_among, lows_of, lows_in_shape, or_lows, lows_among, lows_declared}
 use Rattle.algol_told.proofs.Held as held
 use Rattle.algol_told.proofs.Held.{IsHeld, AllHeld, Passes}
-use Rattle.algol_meaning.proofs.Naming.{same_name-itself}
 use Rattle.b67_templates.specs.Labels.{labels_in, label_from}
-use Rattle.b67_fitting.proofs.Apart.{same_place}
 use Rattle.b67_fitting.proofs.Declaring.{IsOther, names_of, names_both, one_of_back, all_other}
-use Rattle.b67_fitting.proofs.Lists.{each_front, each_back, each_both, nil_front, nil_back, not_so}
+use Rattle.b67_list.proofs.Lists.{append_none_left, append_none_right, each_back, each_both, each_front}
 use Rattle.b67_compile.proofs.LabelsDeclared.{begun_sites}
 
 -- ---- names that differ
@@ -60,7 +60,7 @@ pub first_of : (k : ℕ) (seen ns : List Named) (i : ℕ) (n : Named) → Fresh 
 first_of k seen [] i n f h = absurd (let clash : None ≡ Some n = h in cc)
 first_of k seen (m ∷ ns) zero n f h =
     let same : m ≡ n = cc in
-    let on : same_name m.name n.name ≡ true = ap (λ (z : Named). same_name z.name n.name) same ∙ same_name-itself n.name in
+    let on : same_name m.name n.name ≡ true = ap (λ (z : Named). same_name z.name n.name) same ∙ same_name_itself n.name in
     let here : k ≡ k + 0 = omega arith in
     ap (λ (b : Bool). if b then Some k else label_from (k + 1) ns n.name) on ∙ ap (λ (j : ℕ). Some j) here
 first_of k seen (m ∷ ns) (suc i) n f h =
@@ -79,12 +79,12 @@ either_off false b h = (refl, h)
 fresh_from : (names : List (List ℕ)) (seen ns : List Named) → Covers names seen → repeated names ns ≡ [] → Fresh seen ns
 fresh_from names seen [] c r = tt
 fresh_from names seen (n ∷ ns) c r = (
-  c n.name (not_so (name_is_one_of names n.name) n.spot (nil_front (if_so (name_is_one_of names n.name) n.spot) (repeated (n.name ∷ names) ns) r)),
+  c n.name (not_so (name_is_one_of names n.name) n.spot (append_none_left (if_so (name_is_one_of names n.name) n.spot) (repeated (n.name ∷ names) ns) r)),
   fresh_from (n.name ∷ names) (n ∷ seen) ns
       (λ name h.
       let both = either_off (same_name n.name name) (name_is_one_of names name) h in
       (both.0, c name both.1))
-      (nil_back (if_so (name_is_one_of names n.name) n.spot) (repeated (n.name ∷ names) ns) r),
+      (append_none_right (if_so (name_is_one_of names n.name) n.spot) (repeated (n.name ∷ names) ns) r),
 )
 
 -- ---- labels
@@ -126,7 +126,7 @@ module _ (blocks : List Block) (all : List Known) where
       by : (b : Bool) → same_spot n.spot spot ≡ b → (if b then true else stands_among ns spot) ≡ true → (stands_among ns spot ≡ true → IsRow spot) → IsRow spot
       by true same g later = record {
         as_one = record { name = n.name; spot = n.spot; block = block; depth = depth; sort = sort.array; class = class.array kind rank };
-        known = ap (known_there all) (sym (same_place n.spot spot same)) ∙ h.0;
+        known = ap (known_there all) (sym (same_spot_is n.spot spot same)) ∙ h.0;
         kind = kind;
         rank = rank;
         class_is = refl;
@@ -174,7 +174,7 @@ module _ (blocks : List Block) (all : List Known) where
       of_shape same None q k = absurd (let clash : None ≡ Some l = k in cc)
       of_shape same (Some shape) q k = record {
         as_one = record { name = n.name; spot = n.spot; block = block; depth = depth; sort = sort_in g.specs (is_named_in g.values n.name) n.name; class = class_in g.specs n.name };
-        known = ap (known_there all) (sym (same_place n.spot spot same)) ∙ h.0;
+        known = ap (known_there all) (sym (same_spot_is n.spot spot same)) ∙ h.0;
         kind = shape.kind;
         rank = length shape.lows;
         class_is = shaped g.specs n.name shape q;

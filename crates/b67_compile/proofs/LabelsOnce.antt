@@ -7,10 +7,11 @@ use Rattle.algol_tree.specs.Ascending.{IsInOrder, spots_of_expr, spots_of_headin
 use Rattle.algol_tree.specs.Blocks.{same_spot, of_statement, of_procedure, stmts_of}
 use Rattle.algol_tree.specs.Plain as tree
 use Rattle.algol_tree.specs.Plain.{PStmt, PStmts, PDecls}
+use Rattle.algol_tree.proofs.Spots.{same_spot_is}
 use Rattle.b67_ops.specs.declared.TheConstants.{OUTER_LEVEL}
 use Rattle.b67_emit_stmt.specs.Labels.{label_spots, label_spots_in}
 use Rattle.b67_emit_text.specs.Texts.{Text, StandOnce, spot_times, text_spots, texts, texts_of, texts_in_stmts, texts_in_decls}
-use Rattle.b67_fitting.proofs.Apart.{IsApart, Apart, apart_sym, same_place, ascending_apart}
+use Rattle.b67_fitting.proofs.Apart.{IsApart, Apart, apart_sym, ascending_apart}
 
 module _ (spot : Spot) where
   abbrev many : List Spot → ℕ
@@ -133,7 +134,7 @@ module _ (spot : Spot) where
 
       by : (b : Bool) → same_spot s spot ≡ b → many spots ≤ 1 → (if b then 1 else 0) + many spots ≤ 1
       by true e f =
-          let none = none_there spots (later spots (same_place s spot e) h.0) in
+          let none = none_there spots (later spots (same_spot_is s spot e) h.0) in
           omega (arith, none)
       by false e f = omega (arith, f)
 

@@ -1,20 +1,20 @@
 -- A segment that spells operators can be listed.
-use Rattle.std.proofs.Common.{arith, ◌≡◌, ℕ, suc, ◌+◌, ◌≤◌, ◌==◌, nat_eq, false, List, [], ◌∷◌, ◌++◌, length, All, refl, sym, ap, ◌∙◌, subst, append_assoc, append-nil, length-append, slice_get, if◌then◌else◌}
+use Rattle.std.proofs.Common.{arith, ◌≡◌, ℕ, suc, ◌+◌, ◌≤◌, ◌==◌, false, List, [], ◌∷◌, ◌++◌, length, All, refl, sym, ap, ◌∙◌, subst, append_assoc, append-nil, length-append, slice_get, if◌then◌else◌}
 use Rattle.std.proofs.lemmas.Bool.{ne_eqb}
-use Rattle.std.proofs.lemmas.Bool.Decides.{nat_tests}
 use Rattle.std.proofs.lemmas.List.Elements.{All-nil, All-cons}
 use Rattle.std.specs.Prelude.{Some, None}
 use Rattle.b67_ops.specs.declared.Operator.{Operator}
 use Rattle.b67_ops.specs.Spelling.{spelling, OperatorStands}
-use Rattle.b67_ops.proofs.Laws.{Stands-appended, Stands-kept, Stands-within}
+use Rattle.b67_ops.proofs.Laws.{Stands_appended, Stands_kept, Stands_within}
 use Rattle.b67_segment.specs.declared.TheConstants.{MOST_SEGMENT_WORDS}
 use Rattle.b67_segment.specs.declared.code.Mark.{Mark}
 use Rattle.b67_segment.specs.declared.code.Segment.{Segment}
 use Rattle.b67_segment.specs.Operators.{Placed, text, marks_after, AreFit, StandsAmong}
 use Rattle.b67_segment.specs.Syllables.{syllables, Spells}
-use Rattle.b67_segment.proofs.Fetches.{length-syllables}
+use Rattle.b67_segment.proofs.Fetches.{length_syllables}
 use Rattle.b67_listing.specs.Operators as listed
 use Rattle.b67_listing.specs.Listings.{StandInOrder, marks_of, IsSegment, HasOperators}
+use Rattle.b67_listing.proofs.Spelled.{same_test}
 
 -- the operators with their places, from this one on
 abbrev places : ℕ → List Placed → List listed.ListedOperator
@@ -29,14 +29,11 @@ in_order bytes front (p ∷ ps) fit whole =
     let rest = text (at + length sp) ps in
     let joined : bytes ≡ (front ++ sp) ++ rest = whole ∙ sym (append_assoc front sp rest) in
     let place : length (front ++ sp) ≡ at + length sp = length-append front sp in
-    let kept : OperatorStands ((front ++ sp) ++ rest) at p.level p.operator (at + length sp) = Stands-kept rest (Stands-appended front p.level p.operator fit.0.fits) in
+    let kept : OperatorStands ((front ++ sp) ++ rest) at p.level p.operator (at + length sp) = Stands_kept rest (Stands_appended front p.level p.operator fit.0.fits) in
     let stands : OperatorStands bytes at p.level p.operator (at + length sp) = subst (λ xs. OperatorStands xs at p.level p.operator (at + length sp)) (sym joined) kept in
     let later : StandInOrder bytes (length (front ++ sp)) (places (length (front ++ sp)) ps) =
     in_order bytes (front ++ sp) ps fit.1 (joined ∙ ap (λ k. (front ++ sp) ++ text k ps) (sym place)) in
     (refl, fit.0.outer, fit.0.known, (at + length sp, stands, subst (λ k. StandInOrder bytes k (places k ps)) place later))
-
-same_test : (m n : ℕ) → nat_eq m n ≡ (n == m)
-same_test m n = grind (arith, nat_tests)
 
 -- the marks of the operators are those of the listing
 same_marks : (at before : ℕ) (ps : List Placed) → marks_after at (Some before) ps ≡ marks_of before (places at ps)
@@ -64,7 +61,7 @@ is_segment segment [] at level op next spells stands few =
 is_segment segment (p ∷ ps) at level op next spells stands few =
     let filled = in_order (syllables segment.words) [] (p ∷ ps) spells.fit spells.code in
     let is : IsSegment segment (places 0 (p ∷ ps)) = record {
-      some = omega (arith, length-syllables segment.words, Stands-within filled.3.1);
+      some = omega (arith, length_syllables segment.words, Stands_within filled.3.1);
       few = few;
       words = spells.small;
       filled = filled;

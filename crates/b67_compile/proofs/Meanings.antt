@@ -1,7 +1,6 @@
 -- What the names of a tree tell of what they are is what their declarations say.
 use Rattle.std.proofs.Common.{◌≡◌, Bool, true, false, List, [], ◌∷◌, ◌++◌, map, Option, Some, None, refl, ap, ◌∙◌, subst, if◌then◌else◌}
 use Rattle.std.specs.List.{AllByRecursion}
-use Rattle.std.specs.Option.{option_or}
 use Rattle.algol_tree.specs.declared.token.Spot.{Spot}
 use Rattle.algol_tree.specs.declared.tree.Heading.{Heading}
 use Rattle.algol_tree.specs.declared.tree.Named.{Named}
@@ -22,19 +21,19 @@ use Rattle.algol_tree.specs.Sites.{Part, Site}
 use Rattle.algol_tree.specs.Sorts as sort
 use Rattle.algol_tree.specs.Sorts.{Declared, Sort, formals_of}
 use Rattle.algol_tree.specs.Surroundings.{Surroundings, declared_as, inside_procedure, knowing}
+use Rattle.algol_tree.proofs.Trees.{found_known}
 use Rattle.algol_sorts.specs.declared.sort.Sort as laid
 use Rattle.algol_sorts.specs.declared.sort.Sort.TheVariants as sorts
 use Rattle.algol_sorts.specs.Sorts.{sort_is_by_name, parameter_of, sort_by, sort_of}
-use Rattle.algol_sorts.proofs.Sorts.{parameter-by-name}
+use Rattle.algol_sorts.proofs.Sorts.{parameter_by_name}
 use Rattle.algol_frames.specs.declared.scopes.Declared as found
-use Rattle.algol_scope.specs.Noting.{parameters_by, parameters_here}
-use Rattle.algol_scope.specs.Resolved.{AreOf, Meaning, couple, declaration_of, located, meaning, parameters_among, parameters_at, parameters_of}
+use Rattle.algol_scope.specs.Resolved.{AreOf, Meaning, couple, declaration_of, located, meaning, parameters_of}
 use Rattle.algol_told.proofs.Held as held
 use Rattle.algol_told.proofs.Held.{AllHeld, IsHeld}
-use Rattle.algol_told.proofs.Lists.{all-append, all-weaker, of-each}
-use Rattle.algol_told.proofs.Places.{declared-there, names_known}
-use Rattle.algol_told.proofs.Told.{all-found, all-pass, meaning-there}
-use Rattle.algol_told.proofs.Walk.{Behind, HoldsAt, all-hold}
+use Rattle.algol_told.proofs.Lists.{all_append, all_weaker, of_each}
+use Rattle.algol_told.proofs.Places.{declared_there, names_known}
+use Rattle.algol_told.proofs.Told.{all_pass, meaning_there, parameters_of_known}
+use Rattle.algol_told.proofs.Walk.{Behind, HoldsAt, all_hold}
 use Rattle.b67_templates.specs.Fitting.{a_procedure}
 use Rattle.b67_emitter.specs.declared.names.Names.{Names}
 use Rattle.b67_emitter.specs.Values.{meant, meant_declared, meant_sorted}
@@ -46,7 +45,7 @@ use Rattle.b67_compile.proofs.Fits.{fits, fit_known}
 modes : (fs : List Formal) → map sort_is_by_name (map parameter_of fs) ≡ map (λ (f : Formal). cells.formal_is_by_name (Some f)) fs
 modes [] = refl
 modes (f ∷ fs) =
-    ap (λ (b : Bool). b ∷ map sort_is_by_name (map parameter_of fs)) (parameter-by-name f.class f.by_value) ∙ ap (λ (l : List Bool). cells.formal_is_by_name (Some f) ∷ l) (modes fs)
+    ap (λ (b : Bool). b ∷ map sort_is_by_name (map parameter_of fs)) (parameter_by_name f.class f.by_value) ∙ ap (λ (l : List Bool). cells.formal_is_by_name (Some f) ∷ l) (modes fs)
 
 sorted : (ps : Option (List laid.Sort)) (c : Class) (s : Sort) → ((h : Heading) → c ≡ class.procedure h → ps ≡ Some (map parameter_of (formals_of h))) → fits c s ≡ true →
     meant_sorted ps (sort_by c s) ≡ meant_as c s
@@ -73,16 +72,16 @@ module _ (blocks : List Block) (all : List Known) where
 
   held_one : (a : Surroundings) (n : Named) → AllHeld blocks all a → (o : Option Declared) → declared_as a n ≡ o → AllByRecursion Held (known_by n.spot o)
   held_one a n h None e = tt
-  held_one a n h (Some d) e = (all-found (IsHeld blocks all) a.known n.name d h e, tt)
+  held_one a n h (Some d) e = (found_known (IsHeld blocks all) a.known n.name d h e, tt)
 
   held_names : (a : Surroundings) (ns : List Named) → AllHeld blocks all a → AllByRecursion Held (known_names a ns)
   held_names a [] h = tt
-  held_names a (n ∷ ns) h = all-append Held (known_by n.spot (declared_as a n)) (known_names a ns) (held_one a n h (declared_as a n) refl) (held_names a ns h)
+  held_names a (n ∷ ns) h = all_append Held (known_by n.spot (declared_as a n)) (known_names a ns) (held_one a n h (declared_as a n) refl) (held_names a ns h)
 
   held_heading : (g : Heading) (a : Surroundings) → AllHeld blocks all a → AllByRecursion Held (known_in_heading g a)
   held_heading g a h =
-      all-append Held (known_names a g.params ++ known_names a g.values) (known_names a (specified g))
-      (all-append Held (known_names a g.params) (known_names a g.values) (held_names a g.params h) (held_names a g.values h)) (held_names a (specified g) h)
+      all_append Held (known_names a g.params ++ known_names a g.values) (known_names a (specified g))
+      (all_append Held (known_names a g.params) (known_names a g.values) (held_names a g.params h) (held_names a g.values h)) (held_names a (specified g) h)
 
   held_decl : (d : PDecl) (later : PDecls) (a : Surroundings) → Behind blocks (AllHeld blocks all) (site.declaration d later) a →
       AllByRecursion Held (known_in_decl blocks d (knowing blocks d later a))
@@ -96,7 +95,7 @@ module _ (blocks : List Block) (all : List Known) where
   held_decl (tree.procedure g s) later a h =
       let n : Surroundings = knowing blocks (tree.procedure g s) later a in
       let i : Surroundings = inside_procedure blocks g n in
-      all-append Held (known_names n (g.name ∷ [])) (known_in_heading g i) (held_names n (g.name ∷ []) h.0) (held_heading g i h.1)
+      all_append Held (known_names n (g.name ∷ [])) (known_in_heading g i) (held_names n (g.name ∷ []) h.0) (held_heading g i h.1)
 
   held_part : (x : Part) (a : Surroundings) → AllHeld blocks all a → Behind blocks (AllHeld blocks all) x a →
       AllByRecursion Held (known_at blocks (record { part = x; around = a }))
@@ -115,33 +114,11 @@ module _ (blocks : List Block) (all : List Known) where
       decide true q later = let same : k.declared ≡ d = cc in subst (IsHeld blocks all) same h.0
       decide false q later = later q
 
--- what its parameters are declared as, where its heading has its name
-parameters_there : (ks : List Known) (spot : Spot) (d : Declared) (h : Heading) → known_there ks spot ≡ Some d → d.spot ≡ spot → d.class ≡ class.procedure h →
-    parameters_among ks spot ≡ Some (map parameter_of (formals_of h))
-parameters_there [] spot d h e s c = absurd (let clash : None ≡ Some d = e in cc)
-parameters_there (k ∷ ks) spot d h e s c = decide (same_spot k.spot spot) refl e (λ q. parameters_there ks spot d h q s c)
-  where
-    decide : (b : Bool) → same_spot k.spot spot ≡ b → (if b then Some k.declared else known_there ks spot) ≡ Some d →
-        (known_there ks spot ≡ Some d → parameters_among ks spot ≡ Some (map parameter_of (formals_of h))) →
-        option_or (if b then parameters_here k.spot k.declared else None) (parameters_among ks spot) ≡ Some (map parameter_of (formals_of h))
-    decide false t q on = on q
-    decide true t q on =
-        let same : k.declared ≡ d = cc in
-        let own : same_spot k.spot k.declared.spot ≡ true = ap (λ (x : Declared). same_spot k.spot x.spot) same ∙ ap (same_spot k.spot) s ∙ t in
-        let here : parameters_here k.spot k.declared ≡ Some (map parameter_of (formals_of h)) =
-        ap (λ b. if b then parameters_by k.declared.class else None) own ∙ ap (λ (x : Declared). parameters_by x.class) same ∙ ap parameters_by c in
-        ap (λ o. option_or o (parameters_among ks spot)) here
-
 -- ---- a program
 
 pub known_from : (p : PProgram) (spot : Spot) (d : Declared) → declared_at p spot ≡ Some d → known_there (names_known p) spot ≡ Some d
 unfolding declared_at
 known_from p spot d h = h
-
-parameters_from : (p : PProgram) (d : Declared) (h : Heading) → known_there (names_known p) d.spot ≡ Some d → d.class ≡ class.procedure h →
-    parameters_at p d.spot ≡ Some (map parameter_of (formals_of h))
-unfolding parameters_at
-parameters_from p d h e c = parameters_there (names_known p) d.spot d h e refl c
 
 module _ (p : PProgram) (names : Names) (order : IsInOrder p) (are : AreOf p names.scopes.now) where
   abbrev blocks : List Block
@@ -152,15 +129,15 @@ module _ (p : PProgram) (names : Names) (order : IsInOrder p) (are : AreOf p nam
 
   pub all_held : AllByRecursion (Held blocks all) all
   all_held =
-      let pass = all-pass p order names.scopes.now are in
+      let pass = all_pass p order names.scopes.now are in
       let holds =
-      all-hold blocks (AllHeld blocks all) (held.Passes blocks all) (held.begins blocks all) (held.knows blocks all) (held.enters blocks all) p tt pass in
-      of-each (Held blocks all) (known_at blocks) (sites_of p)
-      (all-weaker (HoldsAt blocks (AllHeld blocks all)) (λ (x : Site). AllByRecursion (Held blocks all) (known_at blocks x)) (λ x h. held_part blocks all x.part x.around h.around h.behind)
+      all_hold blocks (AllHeld blocks all) (held.Passes blocks all) (held.begins blocks all) (held.knows blocks all) (held.enters blocks all) p tt pass in
+      of_each (Held blocks all) (known_at blocks) (sites_of p)
+      (all_weaker (HoldsAt blocks (AllHeld blocks all)) (λ (x : Site). AllByRecursion (Held blocks all) (known_at blocks x)) (λ x h. held_part blocks all x.part x.around h.around h.behind)
       (sites_of p) holds)
 
   pub meant_known : AreMeant p (meant names)
-  meant_known spot d h = by (declaration_of names.scopes.now spot) (are.declarations spot ∙ declared-there p spot d known) (are.meanings spot ∙ meaning-there p spot d known)
+  meant_known spot d h = by (declaration_of names.scopes.now spot) (are.declarations spot ∙ declared_there p spot d known) (are.meanings spot ∙ meaning_there p spot d known)
     where
       known : known_there all spot ≡ Some d
       known = known_from p spot d h
@@ -180,6 +157,6 @@ module _ (p : PProgram) (names : Names) (order : IsInOrder p) (are : AreOf p nam
           let at : x.spot ≡ d.spot = spot_of x l in
           let own : known_there all d.spot ≡ Some d = held_found blocks all all spot d all_held known in
           let given : (g : Heading) → d.class ≡ class.procedure g → parameters_of names.scopes.now x.spot ≡ Some (map parameter_of (formals_of g)) =
-          λ g c. ap (λ (z : Spot). parameters_of names.scopes.now z) at ∙ are.parameters d.spot ∙ parameters_from p d g own c in
+          λ g c. ap (λ (z : Spot). parameters_of names.scopes.now z) at ∙ are.parameters d.spot ∙ parameters_of_known p d g own c in
           ap (λ (z : laid.Sort). meant_sorted (parameters_of names.scopes.now x.spot) z) same
           ∙ sorted (parameters_of names.scopes.now x.spot) d.class d.sort given (fit_known p spot d known)

@@ -13,10 +13,10 @@ use Rattle.algol_tree.specs.Couples.{Located, located, declaration_in, known_at,
 use Rattle.algol_tree.specs.Names.{cells_beyond, place_beyond}
 use Rattle.algol_tree.specs.Sites.{Site}
 use Rattle.algol_tree.specs.Sorts.{Declared}
-use Rattle.algol_scope.proofs.Founded.{no-longer}
+use Rattle.algol_tree.proofs.Spots.{not_found}
 use Rattle.b67_fitting.proofs.Lists.{each_of, filter_none, nil_each}
+use Rattle.b67_list.proofs.Lists.{no_longer}
 use Rattle.b67_compile.proofs.Cells.{AreOfFew, HasFew, HaveFew}
-use Rattle.b67_fitting.proofs.Limits.{not_found}
 
 -- ---- the layout of a frame has each cell once
 
@@ -94,7 +94,7 @@ module _ (blocks : List Block) (all : List Site) where
       let spots : Block → List Spot = λ b. map (λ (c : Cell). c.spot) (cells_of blocks all (number_at blocks b.spot)) in
       each_of (λ (b : Block). place_beyond MOST_BLOCK_CELLS (spots b) ≡ []) (λ (b : Block). HasFew blocks all (number_at blocks b.spot)) blocks
       (λ b e.
-      omega (arith, no-longer (spots b) MOST_BLOCK_CELLS (not_found (slice_get (spots b) MOST_BLOCK_CELLS) e), length-map (cells_of blocks all (number_at blocks b.spot)) (λ (c : Cell). c.spot)))
+      omega (arith, no_longer (spots b) MOST_BLOCK_CELLS (not_found (slice_get (spots b) MOST_BLOCK_CELLS) e), length-map (cells_of blocks all (number_at blocks b.spot)) (λ (c : Cell). c.spot)))
       (nil_each (λ (b : Block). place_beyond MOST_BLOCK_CELLS (spots b)) blocks h)
 
   module _ (few : AreOfFew blocks all all) where

@@ -9,14 +9,13 @@ use Rattle.algol_tree.specs.Counts.{body_tokens}
 use Rattle.algol_tree.specs.Names.{Segment}
 use Rattle.algol_tree.specs.Plain as tree
 use Rattle.algol_tree.specs.Plain.{PDecls, PStmts, PProgram}
+use Rattle.algol_tree.proofs.Trees.{block_is, got_numbered}
 use Rattle.algol_paths.specs.Segments.{is_procedure, procedures_before, segment_among, segment_of, segment_tokens, tokens_or_none}
 use Rattle.b67_ops.specs.declared.TheConstants.{OUTER_LEVEL}
 use Rattle.b67_emit_text.specs.Texts.{Text, outer_text, texts, texts_in_body}
 use Rattle.b67_templates.specs.Names.{HasNames}
-use Rattle.b67_fitting.proofs.Numbering.{block_is}
 use Rattle.b67_fitting.proofs.SurroundedSites.{each_number}
 use Rattle.b67_compile.proofs.Matching.{IsTextOf, Triples, all_match, segs, text_of}
-use Rattle.b67_fitting.proofs.Fits.{got_numbered}
 use Rattle.b67_frames.proofs.Segmenting.{numbered_procedure}
 
 -- ---- among three lists

@@ -1,5 +1,5 @@
 -- An accepted program of one process, with its names, has all that its code wants.
-use Rattle.std.proofs.Common.{arith, ◌≡◌, ℕ, ◌+◌, ◌<◌, ◌≤◌, Bool, true, false, List, [], ◌∷◌, ◌++◌, length, filter, sym, ap, ◌∙◌, subst, length-append, if◌then◌else◌}
+use Rattle.std.proofs.Common.{arith, ◌≡◌, ℕ, ◌+◌, ◌<◌, ◌≤◌, Bool, true, false, List, [], ◌∷◌, length, filter, sym, ap, ◌∙◌, subst, if◌then◌else◌}
 use Rattle.std.specs.BTreeMap.{BTreeMap}
 use Rattle.std.specs.List.{flat_map, AllByRecursion}
 use Rattle.std.proofs.lemmas.Option.{slice_get_within}
@@ -17,13 +17,14 @@ use Rattle.algol_tree.specs.Plain as tree
 use Rattle.algol_tree.specs.Plain.{PDecls, PStmts, PBody, PProgram}
 use Rattle.algol_tree.specs.Scopes.{Scopes, scopes_of}
 use Rattle.algol_tree.specs.Sites.{Site}
+use Rattle.algol_tree.proofs.Images.{body_is}
+use Rattle.algol_tree.proofs.Trees.{block_is, got_numbered}
 use Rattle.algol_paths.specs.Arrays.{lows_at}
 use Rattle.algol_paths.specs.Segments.{is_procedure, segment_of}
 use Rattle.algol_frames.specs.declared.scopes.Scopes as table
 use Rattle.algol_scope.specs.Resolved.{AreOf}
-use Rattle.algol_scope.proofs.Bodies.{body_is}
 use Rattle.b67_ops.specs.declared.TheConstants.{MOST_LEVEL, OUTER_LEVEL}
-use Rattle.b67_templates.specs.Cells.{parameter_cells, procedures, actuals_of, made_of, result_cells_of, simple_cells, variables, zero_cells}
+use Rattle.b67_templates.specs.Cells.{parameter_cells, procedures, actuals_of, made_of, simple_cells}
 use Rattle.b67_templates.specs.Fitting.{DeclsFit, StmtsFit}
 use Rattle.algol_lows.specs.declared.bounds.Lows.{Lows}
 use Rattle.b67_emitter.specs.declared.names.Names.{Names}
@@ -38,12 +39,13 @@ use Rattle.b67_templates.specs.Names.{HasNames}
 use Rattle.b67_templates.specs.Nested.{AreParameters, IsText, LiesNested}
 use Rattle.b67_fitting.specs.Texts.{HasPlainTexts}
 use Rattle.b67_fitting.specs.Wholes.{HasWholeNumbers}
-use Rattle.b67_fitting.proofs.Fits.{accepted_fit, got_numbered}
-use Rattle.b67_fitting.proofs.Lists.{each_of, nil_back, nil_front, nil_map}
+use Rattle.b67_fitting.proofs.Fits.{accepted_fit}
+use Rattle.b67_fitting.proofs.Lists.{each_of}
 use Rattle.b67_fitting.proofs.Nesting.{programs_lie_nested}
-use Rattle.b67_fitting.proofs.Numbering.{block_is, each_at}
 use Rattle.b67_fitting.proofs.SurroundedSites.{IsSurrounded, each_number, each_surrounded}
 use Rattle.algol_lows.specs.Lows.{lows_found_under}
+use Rattle.b67_frames.proofs.FreshCells.{simple_many}
+use Rattle.b67_list.proofs.Lists.{append_none_left, append_none_right, each_at, none_mapped, whole_list}
 use Rattle.b67_compile.proofs.Cells.{AreOfFew, HasFew, HaveFew, IsOfOne, all_of_one}
 use Rattle.b67_compile.proofs.Couples.{actuals_inner, actuals_known, couples_known, lows_known, results_known, couples_near}
 use Rattle.b67_compile.proofs.Inner.{actuals_low, none_deep}
@@ -52,7 +54,6 @@ use Rattle.b67_compile.proofs.Matching.{all_match, text_of}
 use Rattle.b67_compile.proofs.Meanings.{meant_known}
 use Rattle.b67_compile.proofs.Near.{actual_near, blocks_few, located_near, result_near}
 use Rattle.b67_compile.proofs.Places.{IsOf, text_block, texts_many}
-use Rattle.b67_compile.proofs.Shape.{all_taken}
 use Rattle.b67_fitting.proofs.CellsFew.{parameters_many}
 use Rattle.b67_fitting.proofs.ActualsCelled.{each_by}
 
@@ -91,7 +92,7 @@ given b s bounds names scopes_are bounds_are resolved lows accepted order whole 
 -- no block has more cells than a block may have
 cells_kept : (p : PProgram) → Accepted p → cells_beyond (blocks_of_program p) (sites_of p) ≡ []
 unfolding scope_faults
-cells_kept p accepted = nil_map _ _ (nil_back _ _ (nil_front _ _ (nil_front _ _ accepted.scoped)))
+cells_kept p accepted = none_mapped _ _ (append_none_right _ _ (append_none_left _ _ (append_none_left _ _ accepted.scoped)))
 
 each_kept_by : {X : Type 0} (P : X → Type 0) (test : X → Bool) (xs : List X) → AllByRecursion P xs → AllByRecursion P (filter test xs)
 each_kept_by P test [] h = tt
@@ -100,13 +101,6 @@ each_kept_by P test (x ∷ xs) h = by (test x) (each_kept_by P test xs h.1)
     by : (b : Bool) → AllByRecursion P (filter test xs) → AllByRecursion P (if b then x ∷ filter test xs else filter test xs)
     by true later = (h.0, later)
     by false later = later
-
-length_three : {X : Type 0} (xs ys zs : List X) → length (xs ++ ys ++ zs) ≡ length xs + length (ys ++ zs)
-length_three xs ys zs = omega (arith, length-append (xs ++ ys) zs, length-append xs ys, length-append ys zs)
-
--- the cells of 0 stand after those of the parameters
-zeros_behind : (sc : Scopes) (b : Block) → length (simple_cells sc b) ≡ length (parameter_cells sc b) + length (zero_cells b)
-zeros_behind sc b = length_three (parameter_cells sc b) (result_cells_of b.result b.name) (variables b.decls)
 
 module _ (spot : Spot) (ds : PDecls) (ss : PStmts) (names : Names) where
   abbrev p : PProgram
@@ -120,7 +114,7 @@ module _ (spot : Spot) (ds : PDecls) (ss : PStmts) (names : Names) where
     unfolding scopes_of
     few =
         let bs = blocks_of_program p in
-        omega (arith, texts_many spot ds ss has.order has.named, lies.nested.procedures_few (length bs), ap (λ (z : List Block). length (filter is_procedure z)) (all_taken bs))
+        omega (arith, texts_many spot ds ss has.order has.named, lies.nested.procedures_few (length bs), ap (λ (z : List Block). length (filter is_procedure z)) (whole_list bs))
 
     -- what the tables tell of the names is what the program says of them
     told : IsToldOf p (meanings names)
@@ -157,7 +151,7 @@ module _ (spot : Spot) (ds : PDecls) (ss : PStmts) (names : Names) where
           result = ap (λ (z : Block). z.result) own;
           parameters = ap (λ (z : Block). length (parameter_cells sc z)) own ∙ many;
           level = subst (λ (z : Block). level_of z ≤ MOST_LEVEL) here text.low;
-          few = omega (arith, cells, many, zeros_behind sc b);
+          few = omega (arith, cells, many, simple_many sc b);
           decls = subst (λ (j : ℕ). DeclsFit sc (meanings names) (level_of b) j b.decls) (sym is.number_is)
               (subst (λ (z : Block). DeclsFit sc (meanings names) (level_of z) is.block z.decls) here fits.decls);
           fits = subst (λ (j : ℕ). StmtsFit sc (meanings names) (level_of b) j b.stmts) (sym is.number_is)

@@ -1,5 +1,5 @@
 -- The texts of an accepted program of one process: how many they are, and that their blocks' levels and their labels are few.
-use Rattle.std.proofs.Common.{arith, ◌≡◌, ◌+◌, ◌≤◌, List, [], ◌∷◌, length, filter, take, refl, ap, subst}
+use Rattle.std.proofs.Common.{arith, ◌+◌, ◌≤◌, List, length, filter, ap, subst}
 use Rattle.std.specs.List.{AllByRecursion}
 use Rattle.std.proofs.lemmas.Option.{slice_get_within}
 use Rattle.algol_tree.specs.declared.TheConstants.{MOST_PROCEDURES}
@@ -13,15 +13,16 @@ use Rattle.algol_tree.specs.Image as plain
 use Rattle.algol_tree.specs.Plain as tree
 use Rattle.algol_tree.specs.Plain.{PDecls, PStmts, PBody, PProgram}
 use Rattle.algol_tree.specs.Scopes.{scopes_of}
+use Rattle.algol_tree.proofs.Images.{body_is}
+use Rattle.algol_tree.proofs.Trees.{block_is}
 use Rattle.algol_paths.specs.Segments.{is_procedure}
-use Rattle.algol_scope.proofs.Bodies.{body_is}
 use Rattle.b67_ops.specs.declared.TheConstants.{MOST_LEVEL, OUTER_LEVEL}
 use Rattle.b67_emit_text.specs.Targets.{AreSmall}
 use Rattle.b67_emit_text.specs.Texts.{Text, texts, HaveLevelsBody}
 use Rattle.b67_templates.specs.Names.{HasNames}
 use Rattle.b67_templates.specs.Nested.{LiesNested}
 use Rattle.b67_fitting.proofs.Nesting.{programs_lie_nested}
-use Rattle.b67_fitting.proofs.Numbering.{block_is, each_at}
+use Rattle.b67_list.proofs.Lists.{each_at, whole_list}
 use Rattle.b67_compile.proofs.Places.{text_block, texts_many}
 use Rattle.b67_compile.proofs.SmallTexts.{IsLow, IsSlight, program_levels, texts_slight}
 use Rattle.b67_fitting.proofs.ActualsCelled.{each_by}
@@ -38,10 +39,6 @@ pub parts_of : (b : Body) → Accepted (tree.program (plain.body b)) → IsInOrd
 parts_of b accepted order named =
     subst (λ (z : PBody). IsPlain (tree.program z)) (body_is b) (record { accepted = accepted; order = order; named = named })
 
-pub all_taken : {X : Type 0} (xs : List X) → take (length xs) xs ≡ xs
-all_taken [] = refl
-all_taken (x ∷ xs) = ap (λ (ys : List _). x ∷ ys) (all_taken xs)
-
 module _ (spot : Spot) (ds : PDecls) (ss : PStmts) (is : IsPlain (tree.program (tree.body spot ds ss))) where
   abbrev p : PProgram
   p = tree.program (tree.body spot ds ss)
@@ -53,7 +50,7 @@ module _ (spot : Spot) (ds : PDecls) (ss : PStmts) (is : IsPlain (tree.program (
   unfolding scopes_of
   texts_few =
       let bs = blocks_of_program p in
-      omega (arith, texts_many spot ds ss is.order is.named, lies.nested.procedures_few (length bs), ap (λ (z : List Block). length (filter is_procedure z)) (all_taken bs))
+      omega (arith, texts_many spot ds ss is.order is.named, lies.nested.procedures_few (length bs), ap (λ (z : List Block). length (filter is_procedure z)) (whole_list bs))
 
   all_low : AllByRecursion IsLow (blocks_of_program p)
   unfolding scopes_of

@@ -14,7 +14,7 @@ use Rattle.b67_ops.specs.declared.TheConstants.{MOST_LEVEL, OUTER_LEVEL}
 use Rattle.b67_templates.specs.Labels.{labels_in}
 use Rattle.b67_emit_text.specs.Entries.{own_entries, entries_in_stmt, entries_in_stmts, AreLow, AllLow}
 use Rattle.b67_emit_text.specs.Texts.{Text, procedure_text, texts, texts_of, texts_in_stmts, texts_in_decls, HaveLevels, HaveLevelsStmts, HaveLevelsDecls, HaveLevelsBody}
-use Rattle.b67_fitting.proofs.Lists.{each_front, each_back, each_both}
+use Rattle.b67_list.proofs.Lists.{each_back, each_both, each_front}
 use Rattle.b67_compile.proofs.Entries.{entries_in_text}
 
 -- ---- levels

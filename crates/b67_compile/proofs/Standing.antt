@@ -34,6 +34,7 @@ use Rattle.b67_emit_text.specs.Programs.{AreShort, Coded, EndAt}
 use Rattle.b67_emit_text.specs.Texts.{Text, texts}
 use Rattle.b67_faithful.specs.Faithful.{IsShortSegment}
 use Rattle.b67_fitting.proofs.Fits.{labels_stand}
+use Rattle.b67_standing.proofs.Starting.{items_uncounted}
 use Rattle.b67_compile.proofs.Listed.{all_listed, is_segment}
 use Rattle.b67_compile.proofs.Matching.{text_of}
 use Rattle.b67_compile.proofs.Places.{block_text, text_block, texts_many}
@@ -56,10 +57,6 @@ same_ending b = by b.result
 ending_counts : (o : Option Kind) (name : List ℕ) → HasNoCounts (ending o name)
 ending_counts None name = tt
 ending_counts (Some kind) name = tt
-
-no_counts : (ss : PStmts) (k : List Item) → HasNoCounts k → HasNoCounts (items ss k)
-no_counts tree.no_stmts k h = h
-no_counts (tree.stmts s ss) k h = no_counts ss k h
 
 -- statements are followed by what comes after them
 module _ (sc : Scopes) (context : Context) (ps : List Placed) (level : ℕ) where
@@ -118,7 +115,7 @@ module _ (sc : Scopes) (context : Context) (ps : List Placed) (level : ℕ) wher
         routines = routines;
         cells = cells;
         items = subst (λ (k : List Item). KAt sc context ps level (decls_items b.decls ++ items b.stmts k) m) (sym (same_ending b))
-            (decls_at b.decls (items b.stmts last) m d decls (no_counts b.stmts last (ending_counts b.result b.name), after)).1;
+            (decls_at b.decls (items b.stmts last) m d decls (items_uncounted b.stmts last (ending_counts b.result b.name), after)).1;
       }
 
 -- an operator stands at the end of a text

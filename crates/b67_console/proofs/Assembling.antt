@@ -8,12 +8,13 @@ use Rattle.algol_tree.specs.Plain.{PProgram}
 use Rattle.algol_tree.specs.Scopes.{scopes_of}
 use Rattle.algol_meaning.specs.Run.{start}
 use Rattle.b67_segment.specs.declared.code.Code.{Code}
-use Rattle.b67_judge.proofs.Verdicts.{run_is}
 use Rattle.b67_commands.specs.declared.command.Command.{Command}
 use Rattle.b67_commands.specs.Positions.{Stored, position_moved, positions, PositionsAreWithin}
 use Rattle.b67_storing.specs.Stores.{stored_by}
 use Rattle.b67_storing.proofs.Standing.{length_stored}
 use Rattle.b67_stops.specs.Answering.{AreAnswers}
+use Rattle.algol_lean.proofs.InUse.{run_is}
+use Rattle.algol_standing.proofs.Begun.{some_inner}
 use Rattle.b67_console.specs.Telling.{answer_text, IsAnswer, TextFrom, ConsoleText}
 use Rattle.b67_console.specs.Moments.{CommandIsTold}
 
@@ -23,9 +24,6 @@ pub positions_each : (stored : Stored) (k : ℕ) (commands : List Command) → l
 positions_each stored k [] = refl
 positions_each stored k (command ∷ commands) = ap suc (positions_each stored (position_moved stored k command) commands)
 
-value : {a b : ℕ} → Some a ≡ Some b → a ≡ b
-value e = cc
-
 pub positions_within : PositionsAreWithin → (stored : Stored) (k : ℕ) (commands : List Command) (place here : ℕ) → k ≤ length stored
     → slice_get (positions stored k commands) place ≡ Some here → here ≤ length stored
 positions_within within stored k [] place here le e = absurd (nothing e)
@@ -33,7 +31,7 @@ positions_within within stored k [] place here le e = absurd (nothing e)
     nothing : None ≡ Some here → ⊥
     nothing f = cc
 positions_within within stored k (command ∷ commands) zero here le e =
-    subst (λ (n : ℕ). n ≤ length stored) (value e) (within stored k command le)
+    subst (λ (n : ℕ). n ≤ length stored) (some_inner e) (within stored k command le)
 positions_within within stored k (command ∷ commands) (suc place) here le e =
     positions_within within stored (position_moved stored k command) commands place here (within stored k command le) e
 

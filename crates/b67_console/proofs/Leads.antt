@@ -5,7 +5,7 @@ use Rattle.algol_tree.specs.Scopes.{Scopes, scopes_of}
 use Rattle.algol_meaning.specs.World.{World}
 use Rattle.algol_meaning.specs.Run.{run, run_from, start}
 use Rattle.algol_lean.specs.Beside.{RunsBeside}
-use Rattle.b67_judge.proofs.Verdicts.{run_is}
+use Rattle.algol_lean.proofs.InUse.{run_is}
 use Rattle.b67_commands.specs.declared.command.Command.{Command}
 use Rattle.b67_commands.specs.declared.noting.Note.{Note}
 use Rattle.b67_commands.specs.Positions.{positions}

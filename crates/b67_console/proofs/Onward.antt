@@ -1,26 +1,16 @@
 -- The world goes on with the machine.
-use Rattle.std.proofs.Common.{arith, ◌≡◌, ap, sym, ◌∙◌, ◌⊎◌, inl, inr, ℕ, zero, suc, ◌+◌, ◌-◌, ◌<◌, ◌≤◌, if◌then◌else◌, Bool, false, List, ◌∷◌, ◌++◌, replicate, Option, Some, None, append_assoc}
+use Rattle.std.proofs.Common.{arith, ◌≡◌, ap, sym, ◌∙◌, ◌⊎◌, inl, inr, ℕ, suc, ◌+◌, ◌-◌, ◌<◌, ◌≤◌, List, ◌++◌, replicate, Option, Some, append_assoc}
 use Rattle.std.proofs.lemmas.Bool.{cases_lt}
 use Rattle.algol_tree.specs.Scopes.{Scopes}
 use Rattle.algol_meaning.specs.World.{World}
-use Rattle.algol_meaning.specs.Choice.{choice}
-use Rattle.algol_meaning.specs.Run.{may_go, after_entry, run_from, start}
+use Rattle.algol_meaning.specs.Run.{run_from, start}
+use Rattle.algol_meaning.proofs.Cited.{no_world, run_none, stays_none}
 use Rattle.b67_judge.specs.Walked.{GoesAsFar}
-use Rattle.b67_judge.proofs.Steps.{run_none, run_append}
+use Rattle.b67_judge.proofs.Steps.{run_append}
+use Rattle.b67_list.proofs.Numbers.{replicate_parts}
 use Rattle.b67_console.specs.Moments.{WorldAfter}
 
 -- ---- the world
-
-replicate_parts : (n m p : ℕ) → replicate (n + m) p ≡ replicate n p ++ replicate m p
-replicate_parts zero m p = let r : zero + m ≡ m = omega arith in ap (λ (k : ℕ). replicate k p) r
-replicate_parts (suc n) m p = let r : suc n + m ≡ suc (n + m) = omega arith in ap (λ (k : ℕ). replicate k p) r ∙ ap (λ (xs : List ℕ). p ∷ xs) (replicate_parts n m p)
-
-stays_none : (sc : Scopes) (v : World) (p : ℕ) → may_go v p ≡ false → after_entry sc v p ≡ None
-unfolding after_entry
-stays_none sc v p e = ap (λ (b : Bool). if b then Some ((choice sc v p).world) else None) e
-
-no_world : {v : World} → None ≡ Some v → ⊥
-no_world e = cc
 
 module _ (sc : Scopes) (now later : World) (p n times : ℕ) (done more : List ℕ) (after : World) (few : n ≤ times)
     (legal : run_from sc (done ++ (replicate times p ++ more)) (Some (start sc)) ≡ Some after) (w : WorldAfter sc done now)

@@ -1,6 +1,6 @@
 -- The world and the machine stand after the same entries.
-use Rattle.std.proofs.Common.{arith, ◌≡◌, refl, ap, sym, ◌∙◌, subst, ℕ, ◌+◌, ◌≤◌, List, [], ◌++◌, length, length-append, replicate, Some, Result, Ok, Err, inr}
-use Rattle.std.specs.Prelude.{codes, IfOk}
+use Rattle.std.proofs.Common.{arith, ◌≡◌, refl, ap, sym, ◌∙◌, subst, ℕ, ◌+◌, ◌≤◌, List, [], ◌++◌, length, length-append, replicate, Some, inr}
+use Rattle.std.specs.Prelude.{codes}
 use Rattle.std.proofs.lemmas.List.{length-replicate}
 use Rattle.algol_tree.specs.Plain.{PProgram}
 use Rattle.algol_tree.specs.Scopes.{Scopes, scopes_of}
@@ -12,8 +12,8 @@ use Rattle.b67_table.specs.Image.{Image}
 use Rattle.b67_table.specs.Runs.{Tails}
 use Rattle.b67_table.specs.Sound.{Sound}
 use Rattle.b67_schedule.specs.Schedules.{entries, ScheduleModel}
-use Rattle.b67_judge.proofs.Verdicts.{run_is}
 use Rattle.algol_lean.specs.Beside.{RunsBeside}
+use Rattle.algol_lean.proofs.InUse.{run_is}
 use Rattle.b67_deeds.specs.declared.Letter.{Letter}
 use Rattle.b67_machine.specs.Beginning.{IsFresh}
 use Rattle.b67_machine.proofs.Finishing.{begins}
@@ -118,10 +118,6 @@ may_first tree sc code room h given after same is through legal fits =
           ∙ sym (run_is tree given) ∙ legal;
       fits = omega (arith, fits, ap length is);
     }
-
-pub if_ok_each : {A E : Type 0} {P Q : A → Type 0} (r : Result A E) → ((a : A) → P a → Q a) → IfOk r P → IfOk r Q
-if_ok_each (Ok a) f p = f a p
-if_ok_each (Err e) f p = p
 
 -- all is told of the source
 pub are_told :

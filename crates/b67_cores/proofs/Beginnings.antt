@@ -39,13 +39,13 @@ abbrev on_top : List Slot → List Slot → List Slot
 on_top [] x = x
 on_top (slot ∷ slots) x = on_top slots (slot ∷ x)
 
-on_top-length : (slots x : List Slot) → length (on_top slots x) ≡ length slots + length x
-on_top-length [] x = omega arith
-on_top-length (slot ∷ slots) x = omega (arith, on_top-length slots (slot ∷ x))
+on_top_length : (slots x : List Slot) → length (on_top slots x) ≡ length slots + length x
+on_top_length [] x = omega arith
+on_top_length (slot ∷ slots) x = omega (arith, on_top_length slots (slot ∷ x))
 
-on_top-append : (slots more x : List Slot) → on_top more (on_top slots x) ≡ on_top (slots ++ more) x
-on_top-append [] more x = refl
-on_top-append (slot ∷ slots) more x = on_top-append slots more (slot ∷ x)
+on_top_append : (slots more x : List Slot) → on_top more (on_top slots x) ≡ on_top (slots ++ more) x
+on_top_append [] more x = refl
+on_top_append (slot ∷ slots) more x = on_top_append slots more (slot ∷ x)
 
 reversed : (w : Word) (us rest : List Word) → reverse us ++ (w ∷ rest) ≡ reverse (w ∷ us) ++ rest
 reversed w us rest = sym (append_assoc (reverse us) (w ∷ []) rest) ∙ ap (λ ws. ws ++ rest) (sym (reverse-append (w ∷ []) us))
@@ -61,8 +61,8 @@ cell_slots many controls = replicate many zero_slot ++ control_slots controls
 abbrev cell_words : ℕ → List Pcw → List Word
 cell_words many controls = replicate many zero_word ++ control_words controls
 
-cells-length : (many : ℕ) (controls : List Pcw) → length (cell_slots many controls) ≡ many + length controls
-cells-length many controls =
+cells_length : (many : ℕ) (controls : List Pcw) → length (cell_slots many controls) ≡ many + length controls
+cells_length many controls =
     omega (
       arith,
       length-append (replicate many zero_slot) (control_slots controls),
@@ -153,10 +153,10 @@ module _ (sc : Scopes) (known : List Known) (context : Context) (code : Code) (p
       AllAt ps level (replicate many kinds.Zero) begin m → ControlsAt ps level controls m to → Gets from [] to (on_top (cell_slots many controls) [])
   cells_at many controls {from = from} {begin = begin} m to room way zeros stand =
       let zeroed : List Slot = on_top (replicate many zero_slot) [] in
-      subst (λ x. Gets from [] to x) (on_top-append (replicate many zero_slot) (control_slots controls) [])
+      subst (λ x. Gets from [] to x) (on_top_append (replicate many zero_slot) (control_slots controls) [])
       (on sc known code ps level most bound core st
       (on sc known code ps level most bound core st (branches_at [] way) (zeros_at many [] begin m (omega (arith, room)) zeros))
-      (controls_at controls zeroed m to (omega (arith, room, on_top-length (replicate many zero_slot) [], length-replicate many zero_slot)) stand))
+      (controls_at controls zeroed m to (omega (arith, room, on_top_length (replicate many zero_slot) [], length-replicate many zero_slot)) stand))
 
 module _ (sc : Scopes) (known : List Known) (context : Context) (code : Code) (ps : List Placed) (level bound from to : ℕ) (core : Core) (at : CoreAt sc known code ps level from [] core) where
   -- no cells: nothing is done but the branches
@@ -205,8 +205,8 @@ module _ (sc : Scopes) (known : List Known) (context : Context) (code : Code) (p
       omega (
         arith,
         slots_length sc known level (frame core.registers) (length core.below) slots r.left r.are,
-        on_top-length (cell_slots many controls) [],
-        cells-length many controls,
+        on_top_length (cell_slots many controls) [],
+        cells_length many controls,
       ) in
       let small : length core.below + length r.left ≤ 2 + frame core.registers + most_cells = omega (arith, long, few, at.is.bottom) in
       let last : Core = made sc known code ps level most bound core st n to slots r.left has small in

@@ -6,12 +6,12 @@ use Rattle.b67_control.specs.declared.Registers.{Registers}
 use Rattle.b67_ops.specs.declared.TheConstants.{MOST_LEVEL}
 use Rattle.b67_ops.specs.declared.Operator.{Operator}
 use Rattle.b67_ops.specs.declared.BadCode.{BadCode}
-use Rattle.b67_ops.proofs.Laws.{Stands-within}
+use Rattle.b67_ops.proofs.Laws.{Stands_within}
 use Rattle.b67_segment.specs.declared.code.Code.{Code}
 use Rattle.b67_segment.specs.declared.code.Segment.{Segment}
 use Rattle.b67_segment.specs.declared.code.Pointer.{Pointer}
 use Rattle.b67_segment.specs.Fetching.{StandsIn}
-use Rattle.b67_segment.proofs.Fetches.{fetched-ok, length-syllables}
+use Rattle.b67_segment.proofs.Fetches.{fetched_ok, length_syllables}
 use Rattle.b67_store.specs.Store.{stack_limit}
 use Rattle.b67_table.specs.declared.InterruptKind.TheVariants.{BadCode as bad_code}
 use Rattle.b67_table.specs.Effect.{interrupts}
@@ -60,9 +60,9 @@ module _ (code : Code) (most : ℕ) (short : (k : ℕ) (segment : Segment) → s
   stands_before : (r : Registers) (op : Operator) (next : ℕ) → r.ll ≤ MOST_LEVEL → operator_at code r ≡ Ok (op, next) → r.place < most
   stands_before r op next level e =
       let at : Pointer = record { segment = r.segment; place = r.place } in
-      let s : StandsIn code at r.ll op next = (fetched-ok code at r.ll level op next).0 e in
-      let within = Stands-within s.stands in
-      omega (arith, within.0, within.2, length-syllables s.segment.words, short r.segment s.segment s.there)
+      let s : StandsIn code at r.ll op next = (fetched_ok code at r.ll level op next).0 e in
+      let within = Stands_within s.stands in
+      omega (arith, within.0, within.2, length_syllables s.segment.words, short r.segment s.segment s.there)
 
   -- the last of these steps is that of an operator
   step_and_more : {bound n : ℕ} {a b c : Core} → a.registers.ll ≤ MOST_LEVEL → CoreStep code a b → CoreSteps code bound n b c → n + 1 + a.registers.place ≤ most

@@ -1,12 +1,12 @@
 -- What a process performs is a fact of its core only.
-use Rattle.std.proofs.Common.{◌≡◌, refl, sym, ap, ◌∙◌, subst, ℕ, suc, ◌+◌, ◌≤◌, true, ◌++◌, length, take, drop, Result, Ok, arith, length-append}
+use Rattle.std.proofs.Common.{◌≡◌, refl, sym, ap, ◌∙◌, subst, ℕ, suc, ◌+◌, ◌≤◌, true, ◌++◌, length, take, drop, arith, length-append}
 use Rattle.std.specs.Prelude.{reverse}
 use Rattle.std.proofs.Math.Seq.{drop-append_seam, take-append_seam}
 use Rattle.std.proofs.lemmas.Bool.{and_parts}
 use Rattle.std.proofs.lemmas.List.{reverse-reverse, length-reverse}
 use Rattle.b67_control.specs.declared.Registers.{Registers}
 use Rattle.b67_ops.specs.declared.Operator.{Operator}
-use Rattle.b67_ops.specs.declared.BadCode.{BadCode}
+use Rattle.b67_ops.proofs.Cited.{same_found}
 use Rattle.b67_segment.specs.declared.code.Code.{Code}
 use Rattle.b67_store.specs.Store.{stack_limit}
 use Rattle.b67_table.specs.declared.Private.{Private}
@@ -67,9 +67,6 @@ record Stepped (code : Code) (p : ℕ) (img : Image) (a : Core) (new : Image) : 
   pub fits : size core ≤ stack_limit
   pub is : new ≡ with_core img p core
 
-same_image : (x y : Image) → outcomes.gives x ≡ outcomes.gives y → x ≡ y
-same_image x y e = cc
-
 module _ (code : Code) (p : ℕ) (img new : Image) (a : Core) (has : HasCore img p a) (is_plain : plain code img p ≡ true) (gives_new : table code img p ≡ outcomes.gives new) where
   plain_private : private_next code img p ≡ true
   unfolding plain
@@ -115,9 +112,6 @@ repeated code p n x new y a has d =
     record { core = d.core; is = d.is; plains = plains_of code p stack_limit (omega arith) y has d.steps }
 
 -- ---- each core has one step
-
-same_found : (x y : Operator × ℕ) → ◌≡◌ {A = Result (Operator × ℕ) BadCode} (Ok x) (Ok y) → x ≡ y
-same_found x y e = cc
 
 same_part : (x y : Private) → gives x ≡ gives y → x ≡ y
 same_part x y e = cc

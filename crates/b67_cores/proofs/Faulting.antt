@@ -20,7 +20,7 @@ use Rattle.b67_ops.specs.declared.PlainKind.{PlainKind}
 use Rattle.b67_ops.specs.declared.PlainKind.TheVariants as kinds
 use Rattle.b67_segment.specs.Operators.{Placed}
 use Rattle.b67_segment.specs.declared.code.Code.{Code}
-use Rattle.b67_segment.proofs.Among.{fetched-spelled}
+use Rattle.b67_segment.proofs.Among.{fetched_spelled}
 use Rattle.b67_segment.specs.Fetching.{fetched}
 use Rattle.b67_table.specs.declared.Private.{Private}
 use Rattle.b67_table.specs.Effect.{Effect, gives, faults, ◌>>=◌}
@@ -151,7 +151,7 @@ module _ (sc : Scopes) (known : List Known) (code : Code) (ps : List Placed) (le
     stands =
         ap (λ n. fetched code (record { segment = core.registers.segment; place = n }) core.registers.ll) at.place_is
         ∙ ap (λ l. fetched code (record { segment = core.registers.segment; place = from }) l) at.level_is
-        ∙ fetched-spelled code core.registers.segment at.there at.spells stands;
+        ∙ fetched_spelled code core.registers.segment at.there at.spells stands;
     private = ap class_by (f.row_is core.registers.place);
     effect =
         ap (λ (w : TableRow). part_by w to (part_of_core core)) (f.row_is core.registers.place)

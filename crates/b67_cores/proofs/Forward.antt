@@ -11,10 +11,10 @@ use Rattle.b67_ops.specs.declared.PlainKind.{PlainKind}
 use Rattle.b67_ops.specs.declared.PlainKind.TheVariants as kinds
 use Rattle.b67_ops.specs.declared.BranchKind.{BranchKind}
 use Rattle.b67_ops.specs.declared.BranchKind.TheVariants.{Brfl, Brtr, Brun}
-use Rattle.b67_ops.proofs.Laws.{Stands-within}
+use Rattle.b67_ops.proofs.Laws.{Stands_within}
 use Rattle.b67_segment.specs.declared.code.Code.{Code}
 use Rattle.b67_segment.specs.declared.code.Pointer.{Pointer}
-use Rattle.b67_segment.proofs.Fetches.{fetched-ok}
+use Rattle.b67_segment.proofs.Fetches.{fetched_ok}
 use Rattle.b67_table.specs.declared.Private.{Private}
 use Rattle.b67_table.specs.Effect.{Effect, gives}
 use Rattle.b67_table.specs.Private.{pop, push, bits_of}
@@ -107,7 +107,7 @@ pub step_forward : {code : Code} {a b : Core} → a.registers.ll ≤ MOST_LEVEL 
 unfolding private_op Forward Behind
 step_forward {code} {a} {b} most s =
     let at : Pointer = record { segment = a.registers.segment; place = a.registers.place } in
-    let next_on : a.registers.place < s.next = (Stands-within ((fetched-ok code at a.registers.ll most s.op s.next).0 s.stands).stands).0 in
+    let next_on : a.registers.place < s.next = (Stands_within ((fetched_ok code at a.registers.ll most s.op s.next).0 s.stands).stands).0 in
     let on : a.registers.place < s.part.regs.place =
     given_forward a.registers.place (part_by (row s.op a.registers.place) s.next (part_of_core a)) s.part
     (row_forward a.registers.place s.op s.next (part_of_core a) next_on) s.effect in

@@ -4,19 +4,19 @@ use Rattle.std.specs.Prelude.{int_lt, int_le, neg_ℤ, ◌+ℤ◌, ◌-ℤ◌, �
 use Rattle.std.proofs.lemmas.Int.{ints}
 use Rattle.b67_num.specs.declared.Calculation.TheVariants.{Sum, Difference, Product}
 use Rattle.b67_num.specs.Whole.{whole, calculated}
-use Rattle.b67_num.proofs.WholeLaws.{whole-fitting}
+use Rattle.b67_num.proofs.WholeLaws.{whole_fitting}
 use Rattle.b67_templates.specs.Fragments.{IsWholeNumber, Low, zero, above, near, far, low_of}
 use Rattle.b67_cores.proofs.Taking.{one_if}
 
 -- ---- where a lower bound lies
 
-is_least : (a b : ℤ) → int_le a b ≡ true → a ≤ℤ b
+pub is_least : (a b : ℤ) → int_le a b ≡ true → a ≤ℤ b
 is_least a b e = grind (arith, ints)
 
-is_less : (a b : ℤ) → int_lt a b ≡ true → a <ℤ b
+pub is_less : (a b : ℤ) → int_lt a b ≡ true → a <ℤ b
 is_less a b e = grind (arith, ints)
 
-not_less : (a b : ℤ) → int_lt a b ≡ false → b ≤ℤ a
+pub not_less : (a b : ℤ) → int_lt a b ≡ false → b ≤ℤ a
 not_less a b e = grind (arith, ints)
 
 abbrev chosen : Bool → Bool → Bool → Low
@@ -57,22 +57,22 @@ one_time z = omega (arith, ints)
 no_time : (z : ℤ) → pos 0 *ℤ z ≡ pos 0
 no_time z = omega (arith, ints)
 
-time_one : (z : ℤ) → z *ℤ pos 1 ≡ z
+pub time_one : (z : ℤ) → z *ℤ pos 1 ≡ z
 time_one z = omega (arith, ints)
 
-time_none : (z : ℤ) → z *ℤ pos 0 ≡ pos 0
+pub time_none : (z : ℤ) → z *ℤ pos 0 ≡ pos 0
 time_none z = omega (arith, ints)
 
 -- the bound where the comparison holds, and else 0
 pub bound_product : (b : Bool) (z : ℤ) → IsWholeNumber z → calculated Product (one_if b) z ≡ Ok (if b then z else pos 0)
 unfolding calculated
-bound_product true z h = ap whole (one_time z) ∙ whole-fitting z h
-bound_product false z h = ap whole (no_time z) ∙ whole-fitting (pos 0) (omega arith)
+bound_product true z h = ap whole (one_time z) ∙ whole_fitting z h
+bound_product false z h = ap whole (no_time z) ∙ whole_fitting (pos 0) (omega arith)
 
 pub subscript_product : (b : Bool) (z : ℤ) → IsWholeNumber z → calculated Product z (one_if b) ≡ Ok (if b then z else pos 0)
 unfolding calculated
-subscript_product true z h = ap whole (time_one z) ∙ whole-fitting z h
-subscript_product false z h = ap whole (time_none z) ∙ whole-fitting (pos 0) (omega arith)
+subscript_product true z h = ap whole (time_one z) ∙ whole_fitting z h
+subscript_product false z h = ap whole (time_none z) ∙ whole_fitting (pos 0) (omega arith)
 
 pub square : calculated Product (pos 65535) (pos 65535) ≡ Ok (pos 4294836225)
 unfolding calculated whole
@@ -102,20 +102,20 @@ as_difference i low = omega (arith, ints)
 by_difference : (b : Bool) (low i : ℤ) → (b ≡ true → IsWholeNumber (i -ℤ low)) → IsWholeNumber i
     → calculated Difference i (if b then low else pos 0) ≡ Ok (if b then i -ℤ low else i)
 unfolding calculated
-by_difference true low i h k = whole-fitting (i -ℤ low) (h refl)
-by_difference false low i h k = ap whole (less_none i) ∙ whole-fitting i k
+by_difference true low i h k = whole_fitting (i -ℤ low) (h refl)
+by_difference false low i h k = ap whole (less_none i) ∙ whole_fitting i k
 
 by_sum : (b : Bool) (low i : ℤ) → (b ≡ true → IsWholeNumber (i -ℤ low)) → IsWholeNumber i
     → calculated Sum i (if b then neg_ℤ low else pos 0) ≡ Ok (if b then i -ℤ low else i)
 unfolding calculated
-by_sum true low i h k = ap whole (as_difference i low) ∙ whole-fitting (i -ℤ low) (h refl)
-by_sum false low i h k = ap whole (more_none i) ∙ whole-fitting i k
+by_sum true low i h k = ap whole (as_difference i low) ∙ whole_fitting (i -ℤ low) (h refl)
+by_sum false low i h k = ap whole (more_none i) ∙ whole_fitting i k
 
 by_bound : (b : Bool) (low i : ℤ) → (b ≡ true → IsWholeNumber (i -ℤ low)) → IsWholeNumber (neg_ℤ low)
     → calculated Sum (if b then i else pos 0) (neg_ℤ low) ≡ Ok (if b then i -ℤ low else neg_ℤ low)
 unfolding calculated
-by_bound true low i h k = ap whole (as_difference i low) ∙ whole-fitting (i -ℤ low) (h refl)
-by_bound false low i h k = ap whole (none_more (neg_ℤ low)) ∙ whole-fitting (neg_ℤ low) k
+by_bound true low i h k = ap whole (as_difference i low) ∙ whole_fitting (i -ℤ low) (h refl)
+by_bound false low i h k = ap whole (none_more (neg_ℤ low)) ∙ whole_fitting (neg_ℤ low) k
 
 module _ (low i : ℤ) (small : IsWholeNumber low) (whole_i : IsWholeNumber i) where
   above_fits : pos 0 <ℤ low → pos 0 ≤ℤ i → IsWholeNumber (i -ℤ low)

@@ -11,7 +11,7 @@ use Rattle.b67_ops.specs.declared.PlainKind.TheVariants as kinds
 use Rattle.b67_segment.specs.Operators.{Placed}
 use Rattle.b67_segment.specs.declared.code.Code.{Code}
 use Rattle.b67_segment.specs.Fetching.{fetched}
-use Rattle.b67_segment.proofs.Among.{fetched-spelled}
+use Rattle.b67_segment.proofs.Among.{fetched_spelled}
 use Rattle.b67_table.specs.declared.InterruptKind.TheVariants.{InvalidOperand}
 use Rattle.b67_table.specs.declared.Private.{Private}
 use Rattle.b67_table.specs.Effect.{gives, interrupts, ◌>>=◌}
@@ -47,7 +47,7 @@ module _ (sc : Scopes) (known : List Known) (code : Code) (ps : List Placed) (le
     op = ops.Plain kinds.Push;
     next = to;
     stands = ap (λ l. fetched code (record { segment = core.registers.segment; place = from }) l) st.level_is
-        ∙ fetched-spelled code core.registers.segment st.there st.spells has;
+        ∙ fetched_spelled code core.registers.segment st.there st.spells has;
     private = refl;
     part = record { regs = made_registers; words = ws };
     effect = ap (λ b. cond b (gives (record {

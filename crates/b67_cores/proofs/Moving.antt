@@ -5,13 +5,13 @@ use Rattle.algol_tree.specs.Scopes.{Scopes}
 use Rattle.b67_word.specs.Word.{Word}
 use Rattle.b67_control.specs.declared.Registers.{Registers}
 use Rattle.b67_ops.specs.declared.Operator.{Operator}
-use Rattle.b67_ops.proofs.Laws.{length-spelling}
+use Rattle.b67_ops.proofs.Laws.{length_spelling}
 use Rattle.b67_segment.specs.Operators.{Placed, StandsAmong}
 use Rattle.b67_segment.specs.Syllables.{Spells}
 use Rattle.b67_segment.specs.Fetching.{fetched}
 use Rattle.b67_segment.specs.declared.code.Code.{Code}
 use Rattle.b67_segment.specs.declared.code.Segment.{Segment}
-use Rattle.b67_segment.proofs.Among.{fetched-spelled}
+use Rattle.b67_segment.proofs.Among.{fetched_spelled}
 use Rattle.b67_table.specs.declared.Class.TheVariants as classes
 use Rattle.b67_table.specs.declared.Private.{Private}
 use Rattle.b67_table.specs.Effect.{Effect, gives}
@@ -34,7 +34,7 @@ steps_on {code} {bound} {m = m} {c = c} (onward {n = n} {a = a} h s more) later 
 -- ---- operators that stand somewhere
 
 pub place_grows : {ps : List Placed} {at level : ℕ} {op : Operator} {next : ℕ} → StandsAmong ps at level op next → at < next
-place_grows {at = at} {level = level} {op = op} s = omega (arith, s.next_is, (length-spelling at level op).0)
+place_grows {at = at} {level = level} {op = op} s = omega (arith, s.next_is, (length_spelling at level op).0)
 
 -- ---- the core of a frame
 
@@ -113,7 +113,7 @@ module _ (sc : Scopes) (known : List Known) (code : Code) (ps : List Placed) (le
         → fetched code (record { segment = core.registers.segment; place = place }) core.registers.ll ≡ Ok (op, next)
     fetched_here place op next s =
         ap (λ l. fetched code (record { segment = core.registers.segment; place = place }) l) st.level_is
-        ∙ fetched-spelled code core.registers.segment st.there st.spells s
+        ∙ fetched_spelled code core.registers.segment st.there st.spells s
 
     class_is : (op : Operator) (place : ℕ) (change : ℕ → Private → Effect Private) → row op place ≡ private_part change → class_at op place ≡ classes.Private
     unfolding class_at

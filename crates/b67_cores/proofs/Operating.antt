@@ -46,7 +46,7 @@ false_taken false m n w i = ap (λ k. if nat_eq k 0 then m else n) i.lowest
 
 -- ---- marks
 
-newest_low : (home base : ℕ) (slots : List Slot) → home < base → newest home base slots < base + length slots
+pub newest_low : (home base : ℕ) (slots : List Slot) → home < base → newest home base slots < base + length slots
 newest_low home base [] h = omega (arith, h)
 newest_low home base (operand v ∷ below) h = omega (arith, newest_low home base below h)
 newest_low home base (reference n ∷ below) h = omega (arith, newest_low home base below h)

@@ -1,13 +1,17 @@
 -- Steps of a core, performed in an image, and one that comes to the stack limit.
-use Rattle.std.proofs.Common.{◌≡◌, ◌≢◌, refl, sym, ap, ◌∙◌, subst, ℕ, zero, suc, ◌<◌, ◌≤◌, true, false, List, ◌++◌, take, drop, set, Some, arith}
+use Rattle.std.proofs.Common.{◌≡◌, ◌≢◌, refl, sym, ap, ◌∙◌, subst, ℕ, ◌<◌, ◌≤◌, true, false, List, ◌++◌, take, drop, set, Some, arith}
 use Rattle.std.specs.Prelude.{◌↔◌, ◌&&◌, reverse}
 use Rattle.std.proofs.Math.Seq.{drop-append_seam, take-append_seam}
 use Rattle.std.proofs.lemmas.Bool.{and_right}
 use Rattle.std.proofs.lemmas.List.{reverse-reverse}
-use Rattle.b67_list.specs.Numbered.{numbered, set_numbered}
+use Rattle.b67_list.specs.Numbered.{numbered}
+use Rattle.b67_list.proofs.Lists.{set_set_here}
+use Rattle.b67_list.proofs.Numbered.{numbered_same, numbered_twice}
 use Rattle.b67_control.specs.declared.Registers.{Registers}
 use Rattle.b67_segment.specs.declared.code.Code.{Code}
 use Rattle.b67_store.specs.Store.{Stacks, stack_at, words_or, words_of, stack_limit}
+use Rattle.b67_store.proofs.Cited.{put_there}
+use Rattle.b67_store.proofs.StoreLaws.{changed_others}
 use Rattle.b67_table.specs.declared.Class.TheVariants as classes
 use Rattle.b67_table.specs.declared.Private.{Private}
 use Rattle.b67_table.specs.Effect.{Effect, gives}
@@ -19,10 +23,11 @@ use Rattle.b67_table.specs.Rows.{TableRow, private_part, action, row}
 use Rattle.b67_table.specs.Table.{raw, table, plain, part_by, private_op, class_at, class_by, is_private, private_at, private_in, private_next, is_new, stack_length, length_in}
 use Rattle.b67_table.specs.Privacy.{RegistersStay}
 use Rattle.b67_table.specs.Runs.{Plains, stay, go}
-use Rattle.b67_table.proofs.Stacks.{set_here, set_other, set_set_here, get_numbered_other}
-use Rattle.b67_table.proofs.Lists.{set_there, numbered_same, numbered_set, numbered_from, numbered_within}
+use Rattle.b67_table.proofs.Stacks.{set_here, get_numbered_other}
+use Rattle.b67_table.proofs.Lists.{numbered_set, numbered_from, numbered_within}
 use Rattle.b67_table.proofs.Limit.{fits, limit_comes_last}
 use Rattle.b67_table.proofs.Privacy.{Next, raw_is, part_keeps}
+use Rattle.b67_table.proofs.Cited.{keeps_both}
 use Rattle.b67_cores.specs.Cores.{Core, stack_of, size, IsCore, HasCore, with_core, part_of_core, CoreStep, CoreSteps, here, onward}
 use Rattle.b67_cores.specs.Stretches.{StepsArePerformed, StepsComeToLimit}
 
@@ -69,7 +74,7 @@ module _ (img : Image) (p : ℕ) (a : Core) (has : HasCore img p a) where
 
   pub same_core : with_core img p a ≡ img
   same_core =
-      ap (λ (st : Stacks). with_registers (with_stacks img st) p a.registers) (set_there img.stacks a.registers.stack (stack_of a) has.stack)
+      ap (λ (st : Stacks). with_registers (with_stacks img st) p a.registers) (put_there img.stacks a.registers.stack (stack_of a) has.stack)
       ∙ ap (λ (rs : List Registers). record img { regs = rs }) (numbered_same img.regs p a.registers has.registers)
 
   -- after a step
@@ -138,10 +143,6 @@ module _ (img : Image) (p : ℕ) (a : Core) (has : HasCore img p a) where
 
 -- ---- several steps
 
-set_again : {X : Type 0} (xs : List X) (p : ℕ) (x y : X) → set_numbered (set_numbered xs p x) p y ≡ set_numbered xs p y
-set_again xs zero x y = refl
-set_again xs (suc k) x y = set_set_here xs k x y
-
 -- one core after another of the same stack
 pub with_again : (img : Image) (p : ℕ) (b c : Core) → b.registers.stack ≡ c.registers.stack → with_core (with_core img p b) p c ≡ with_core img p c
 with_again img p b c e =
@@ -149,14 +150,11 @@ with_again img p b c e =
     ∙ ap (λ (st : Stacks). with_registers (with_stacks (with_core img p b) st) p c.registers)
     (set_set_here img.stacks c.registers.stack (Some (stack_of b)) (Some (stack_of c)))
     ∙ ap (λ (rs : List Registers). record (with_stacks img (set img.stacks c.registers.stack (Some (stack_of c)))) { regs = rs })
-    (set_again img.regs p b.registers c.registers)
-
-keeps_on : (q r s : Registers) → RegistersStay q r → RegistersStay r s → RegistersStay q s
-keeps_on q r s h k = (k.0 ∙ h.0, k.1 ∙ h.1, k.2 ∙ h.2, k.3 ∙ h.3, k.4 ∙ h.4, k.5 ∙ h.5)
+    (numbered_twice img.regs p b.registers c.registers)
 
 pub steps_keep : {code : Code} {bound n : ℕ} {a b : Core} → CoreSteps code bound n a b → RegistersStay a.registers b.registers
 steps_keep (here h) = (refl, refl, refl, refl, refl, refl)
-steps_keep {b = c} (onward {a = a} {b = b} h s more) = keeps_on a.registers b.registers c.registers (step_keeps s) (steps_keep more)
+steps_keep {b = c} (onward {a = a} {b = b} h s more) = keeps_both a.registers b.registers c.registers (step_keeps s) (steps_keep more)
 
 first_fits : {code : Code} {bound n : ℕ} {a b : Core} → CoreSteps code bound n a b → size a ≤ bound
 first_fits (here h) = h
@@ -194,7 +192,7 @@ module _ (img : Image) (p : ℕ) (a b : Core) (has : HasCore img p a) (kept : Re
   }
 
   pub other_stack : (m : ℕ) → m ≢ p → stack_at (with_core img p b).stacks m ≡ stack_at img.stacks m
-  other_stack m h = set_other img.stacks b.registers.stack m (Some (stack_of b)) (λ e. h (e ∙ kept.0 ∙ has.own))
+  other_stack m h = changed_others img.stacks b.registers.stack m (Some (stack_of b)) (λ e. h (e ∙ kept.0 ∙ has.own))
 
   pub other_registers : (q : ℕ) → q ≢ p → numbered (with_core img p b).regs q ≡ numbered img.regs q
   other_registers q h = get_numbered_other img.regs p q b.registers h

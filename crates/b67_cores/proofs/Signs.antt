@@ -8,9 +8,10 @@ use Rattle.algol_meaning.specs.Statements.{sign_of, is_past}
 use Rattle.b67_num.specs.declared.Calculation.TheVariants.{Difference, Product}
 use Rattle.b67_num.specs.declared.Relation.TheVariants.{Less, Greater}
 use Rattle.b67_num.specs.Whole.{most, whole, calculated, related}
-use Rattle.b67_num.proofs.WholeLaws.{whole-fitting}
+use Rattle.b67_num.proofs.WholeLaws.{whole_fitting}
 use Rattle.b67_templates.specs.Fragments.{IsWholeNumber}
 use Rattle.b67_cores.proofs.Taking.{one_if}
+use Rattle.b67_cores.proofs.Lows.{time_none, time_one}
 
 -- ---- THRU
 
@@ -26,7 +27,7 @@ one_less (negsuc n) h e = cc
 
 pub counted_down : (z : ℤ) → IsWholeNumber z → int_lt (pos 0) z ≡ true → calculated Difference z (pos 1) ≡ Ok (z -ℤ pos 1)
 unfolding calculated
-counted_down z h e = whole-fitting (z -ℤ pos 1) (one_less z h e)
+counted_down z h e = whole_fitting (z -ℤ pos 1) (one_less z h e)
 
 -- ---- FOR
 
@@ -54,7 +55,7 @@ times_sign d false false = omega (arith, ints)
 
 pub signed : (d z : ℤ) → IsWholeNumber d → calculated Product d (sign_of z) ≡ Ok (d *ℤ sign_of z)
 unfolding calculated
-signed d z h = whole-fitting (d *ℤ sign_of z) (omega (arith, times_sign d (int_lt (pos 0) z) (int_lt z (pos 0)), h))
+signed d z h = whole_fitting (d *ℤ sign_of z) (omega (arith, times_sign d (int_lt (pos 0) z) (int_lt z (pos 0)), h))
 
 -- whether a number is past 0 in the direction of another
 pub past_is : (d z : ℤ) → related Greater (d *ℤ sign_of z) (pos 0) ≡ is_past d z
@@ -71,19 +72,13 @@ sign_down : (above under : Bool) → under ≡ true → (if under then pos 0 -�
 sign_down above true e = refl
 sign_down above false e = cc
 
-times_one : (d : ℤ) → d *ℤ pos 1 ≡ d
-times_one d = omega (arith, ints)
-
 times_less : (d : ℤ) → int_lt (pos 0) (d *ℤ negsuc 0) ≡ int_lt d (pos 0)
 times_less d = grind (arith, ints)
-
-times_none : (d : ℤ) → d *ℤ pos 0 ≡ pos 0
-times_none d = omega (arith, ints)
 
 pub past_up : (d z : ℤ) → int_lt (pos 0) z ≡ true → related Greater d (pos 0) ≡ is_past d z
 unfolding related
 past_up d z e =
-    ap (int_lt (pos 0)) (sym (times_one d))
+    ap (int_lt (pos 0)) (sym (time_one d))
     ∙ ap (λ s. int_lt (pos 0) (d *ℤ s)) (sym (sign_up (int_lt (pos 0) z) (int_lt z (pos 0)) (not_both z) e))
 
 pub past_down : (d z : ℤ) → int_lt z (pos 0) ≡ true → related Less d (pos 0) ≡ is_past d z
@@ -92,4 +87,4 @@ past_down d z e =
     sym (times_less d) ∙ ap (λ s. int_lt (pos 0) (d *ℤ s)) (sym (sign_down (int_lt (pos 0) z) (int_lt z (pos 0)) e))
 
 pub past_still : (d : ℤ) → is_past d (pos 0) ≡ false
-past_still d = ap (int_lt (pos 0)) (times_none d)
+past_still d = ap (int_lt (pos 0)) (time_none d)

@@ -6,14 +6,14 @@ use Rattle.b67_word.specs.declared.Place.{Place}
 use Rattle.b67_control.specs.declared.Irw.{Irw}
 use Rattle.b67_control.specs.Control.{Fits_irw, as_irw}
 use Rattle.b67_control.specs.Display.{place_at}
-use Rattle.b67_control.proofs.ControlLaws.{as_irw-irw_word}
+use Rattle.b67_control.proofs.ControlLaws.{as_irw_irw_word}
 use Rattle.b67_ops.specs.declared.Couple.{Couple}
 use Rattle.b67_ops.specs.declared.TheConstants.{OUTER_LEVEL}
 use Rattle.b67_ops.specs.declared.Operator.TheVariants as ops
 use Rattle.b67_ops.specs.declared.PlainKind.TheVariants as kinds
 use Rattle.b67_segment.specs.Operators.{Placed, IsFit, AreFit}
 use Rattle.b67_segment.specs.declared.code.Code.{Code}
-use Rattle.b67_segment.proofs.Aiming.{AreFit-parts}
+use Rattle.b67_segment.proofs.Aiming.{AreFit_parts}
 use Rattle.b67_table.specs.declared.Private.{Private}
 use Rattle.b67_table.specs.Effect.{Effect, gives, ◌>>=◌}
 use Rattle.b67_table.specs.Private.{frame}
@@ -50,7 +50,7 @@ module _ (code : Code) (ps : List Placed) (level most bound : ℕ) (core : Core)
   couple_fits : (c : Couple) (from next : ℕ) → Has ps level from (ops.Namc c) next → Fits_irw (irw_of c)
   couple_fits c from next named =
       let fit : IsFit (record { level = level; operator = ops.Namc c }) =
-      (AreFit-parts named.before (record { level = level; operator = ops.Namc c }) named.after (subst AreFit named.parts st.spells.fit)).1 in
+      (AreFit_parts named.before (record { level = level; operator = ops.Namc c }) named.after (subst AreFit named.parts st.spells.fit)).1 in
       (omega (arith, fit.known, fit.fits.level_seen), (omega (arith, fit.fits.index_fits, few_index_bits level), tt))
 
   module _ (sc : Scopes) (known : List Known) (context : Context) (held : HeldWord) (c : Couple) (is : Stuffable sc context held c) (before from next : ℕ)
@@ -71,7 +71,7 @@ module _ (code : Code) (ps : List Placed) (level most bound : ℕ) (core : Core)
               (inl (refl, refl), below.1) (omega (arith, room)) (omega arith)
               (ap (λ (e : Effect Private). e >>= (λ (q : Private). gives (pointed next q)))
               (stuffed_is (registers_at core from (reference c ∷ x)) (length core.below + length (w ∷ rest)) w (irw_of c) home rest
-              (ap as_irw are.0 ∙ as_irw-irw_word (irw_of c) (couple_fits c before from named)) shown (omega (arith, st.bottom))));
+              (ap as_irw are.0 ∙ as_irw_irw_word (irw_of c) (couple_fits c before from named)) shown (omega (arith, st.bottom))));
         }
 
     shown_somewhere : (o : Option Place) → place_at core.registers.display c.level ≡ o → IsSome o → Gains sc context code ps level most bound core known from (reference c ∷ x) next (descriptor held ∷ x)

@@ -5,10 +5,10 @@ use Rattle.b67_num.specs.declared.NumFault.{NumFault}
 use Rattle.b67_num.specs.declared.Calculation.{Calculation}
 use Rattle.b67_num.specs.declared.Relation.{Relation}
 use Rattle.b67_num.specs.Whole.{calculated, related, negation_of}
-use Rattle.b67_num.proofs.WholeLaws.{calculated-fits, negation_of-fits}
+use Rattle.b67_num.proofs.WholeLaws.{calculated_fits, negation_of_fits}
 use Rattle.b67_word.specs.Word.{Word, word, as_whole}
 use Rattle.b67_word.specs.Word as words
-use Rattle.b67_word.proofs.WordLaws.{as_whole-operand}
+use Rattle.b67_word.proofs.WordLaws.{as_whole_operand}
 use Rattle.b67_control.specs.declared.Registers.{Registers}
 use Rattle.algol_meaning.specs.Value.{Value, number, truth}
 use Rattle.b67_table.specs.declared.Private.{Private}
@@ -41,7 +41,7 @@ Turns change a result = (w : Word) → ValueIs a w → Turned change w result
 
 -- a word of a number is read as it
 pub number_read : (z : ℤ) (w : Word) → IsNumberWord z w → as_whole w ≡ Some z
-number_read z w i = ap as_whole i.is ∙ as_whole-operand z (omega (arith, i.whole))
+number_read z w i = ap as_whole i.is ∙ as_whole_operand z (omega (arith, i.whole))
 
 -- ---- numbers
 
@@ -56,7 +56,7 @@ pub arithmetic_takes : (c : Calculation) (a b z : ℤ) → calculated c a b ≡ 
 unfolding made_of
 arithmetic_takes c a b z e v w iv iw = record {
   word = words.operand z;
-  is = record { is = refl; whole = calculated-fits c a b z e };
+  is = record { is = refl; whole = calculated_fits c a b z e };
   given = λ r s below h.
       wholes_are r (λ (m n : ℤ). made_of (calculated c m n)) s v w (words.operand z) a b below (number_read a v iv) (number_read b w iw) (made (calculated c a b) z e) h;
 }
@@ -90,7 +90,7 @@ relation_counts holds a b v w iv iw = record {
 pub negated_turns : (z : ℤ) → IsWholeNumber z → Turns negated (number z) (number (negation_of z))
 negated_turns z h w iw = record {
   word = words.operand (negation_of z);
-  is = record { is = refl; whole = negation_of-fits z h };
+  is = record { is = refl; whole = negation_of_fits z h };
   given = λ r s below above. negated_is r s w z below (number_read z w iw) above;
 }
 

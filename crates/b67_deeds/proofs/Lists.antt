@@ -5,7 +5,7 @@ use Rattle.b67_deeds.specs.declared.EventAct.TheVariants as act
 use Rattle.b67_deeds.specs.declared.EventTest.TheVariants as test
 use Rattle.b67_deeds.specs.Events.{EventState, joined, taken, queued, passed_on}
 use Rattle.b67_deeds.specs.Listed.{IsListed, AreOnce}
-use Rattle.b67_deeds.specs.Deeds.{EventDeed, acts, tests, goes, waits, procures, Deed, answers, deed, is_of_several, after_change}
+use Rattle.b67_deeds.specs.Deeds.{EventDeed, acts, tests, goes, waits, procures, Deed, answers, deed, after_change}
 
 -- a deed of process p with an event in this state
 pub record Lists (p : ℕ) (e : EventState) (d : Deed) : Type 0 where
@@ -164,11 +164,3 @@ waiting_frees_nobody (tests test.Happened) p e f = refl
 waiting_frees_nobody (tests test.Available) p e f = refl
 waiting_frees_nobody (tests test.Fix) p e f = refl
 waiting_frees_nobody (tests test.WaitAny) p e f = refl
-
--- what holds of each deed that is done with one event, and of the wait for several, holds of all
-pub by_number : (P : EventDeed → Type 0) → ((x : EventDeed) → is_of_several x ≡ false → P x) → P (tests test.WaitAny) → (x : EventDeed) → P x
-by_number P one several (acts x) = one (acts x) refl
-by_number P one several (tests test.Happened) = one (tests test.Happened) refl
-by_number P one several (tests test.Available) = one (tests test.Available) refl
-by_number P one several (tests test.Fix) = one (tests test.Fix) refl
-by_number P one several (tests test.WaitAny) = several

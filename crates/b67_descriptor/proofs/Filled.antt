@@ -4,7 +4,7 @@ use Rattle.std.specs.Prelude.{is_some, pos}
 use Rattle.std.proofs.lemmas.List.{length-replicate}
 use Rattle.b67_word.specs.Word.{operand}
 use Rattle.b67_control.specs.Control.{Fits_descriptor}
-use Rattle.b67_control.proofs.ControlLaws.{as_descriptor-descriptor_word}
+use Rattle.b67_control.proofs.ControlLaws.{as_descriptor_descriptor_word}
 use Rattle.b67_store.specs.Store.{Rows, row_at, row_words, row_words_or, opened_at, least_free, zero_row, row_limit, count_limit}
 use Rattle.b67_store.proofs.StoreLaws.{opened_here}
 use Rattle.b67_table.specs.Image.{with_rows}
@@ -48,7 +48,7 @@ pub filled_more : (before first rows new : Rows) (mother m n at : ℕ) → Fille
 filled_more before first rows new mother m n at f h k low e =
     let within : at < length (row_words rows mother) = omega (arith, h, f.size) in
     let d = array_descriptor false n (least_free rows) in
-    let reads = as_descriptor-descriptor_word d (fits n (least_free rows) k low) in
+    let reads = as_descriptor_descriptor_word d (fits n (least_free rows) k low) in
     let w = array_word false n (least_free rows) in
     subst (λ (r : Rows). Filled before first r mother m n (at + 1)) (sym e) (record {
       more = has_one_more before rows mother at (zero_row n true) w d f.there within reads refl f.more f.opens;

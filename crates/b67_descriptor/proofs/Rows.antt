@@ -1,6 +1,8 @@
 -- Rows that are opened for a mother's row, and closed again.
 use Rattle.std.proofs.Common.{◌≡◌, ◌≢◌, refl, sym, ap, subst, ◌∙◌, ℕ, zero, suc, ◌+◌, ◌<◌, ◌≤◌, List, [], ◌∷◌, length, set, Result, Ok, Err, Option, Some, None, Bool, true, false, cond, ⊎_elim, arith}
 use Rattle.std.specs.Prelude.{slice_get, is_some, IsSome, is_err, OnOk}
+use Rattle.b67_list.proofs.Lists.{get_set_other, length_set}
+use Rattle.b67_list.proofs.Numbers.{one_target}
 use Rattle.b67_descriptor.specs.declared.DescriptorFault.{DescriptorFault}
 use Rattle.b67_table.specs.Arrays.{array_word}
 use Rattle.std.proofs.lemmas.Bool.{cases_eq}
@@ -11,26 +13,10 @@ use Rattle.b67_control.specs.Control.{as_descriptor}
 use Rattle.b67_store.specs.Store.{Row, Rows, row_at, row_words, row_words_or, row_with, with_row_word, opened_at, closed_at, least_free, zero_row}
 use Rattle.b67_store.proofs.StoreLaws.{opened_here, opened_others, changed_here, changed_others, closed_here, free_here}
 use Rattle.b67_table.specs.Look.{read_as}
+use Rattle.b67_table.proofs.Lists.{get_set}
 use Rattle.b67_descriptor.specs.Arrays.{address_in, child, IsChild, HasMore, AreOpen, SameRows, row_added}
 
 -- ---- a word of a row
-
-pub set_get : {X : Type 0} (xs : List X) (n : ℕ) (x : X) → n < length xs → slice_get (set xs n x) n ≡ Some x
-set_get [] n x h = absurd (omega (arith, h))
-set_get (y ∷ ys) zero x h = refl
-set_get (y ∷ ys) (suc n) x h = set_get ys n x (omega (arith, h))
-
-pub set_get_other : {X : Type 0} (xs : List X) (n k : ℕ) (x : X) → k ≢ n → slice_get (set xs n x) k ≡ slice_get xs k
-set_get_other [] n k x h = refl
-set_get_other (y ∷ ys) zero zero x h = absurd (h refl)
-set_get_other (y ∷ ys) zero (suc k) x h = refl
-set_get_other (y ∷ ys) (suc n) zero x h = refl
-set_get_other (y ∷ ys) (suc n) (suc k) x h = set_get_other ys n k x (λ (e : k ≡ n). h (ap suc e))
-
-pub set_length : {X : Type 0} (xs : List X) (n : ℕ) (x : X) → length (set xs n x) ≡ length xs
-set_length [] n x = refl
-set_length (y ∷ ys) zero x = refl
-set_length (y ∷ ys) (suc n) x = ap suc (set_length ys n x)
 
 written_by : (rows : Rows) (n at : ℕ) (w : Word) (o : Option Row) → row_at rows n ≡ o → row_words (set rows n (row_with o at w)) n ≡ set (row_words_or o) at w
 written_by rows n at w None e = none_set rows n e
@@ -52,9 +38,6 @@ written_words rows n at w = written_by rows n at w (row_at rows n) refl
 -- it is told by the mother's row
 child_same : (rows other : Rows) (mother at : ℕ) → row_at other mother ≡ row_at rows mother → child other mother at ≡ child rows mother at
 child_same rows other mother at e = ap (λ (o : Option Row). address_in (read_as as_descriptor (slice_get (row_words_or o) at))) e
-
-some_same : (a b : ℕ) → Some a ≡ Some b → a ≡ b
-some_same a b e = cc
 
 -- ---- one row more
 
@@ -98,19 +81,19 @@ module _ (before rows : Rows) (mother at : ℕ) (row : Row) (w : Word) (d : Desc
   new_child : child after mother at ≡ Some address
   new_child =
       ap (λ (ws : List Word). address_in (read_as as_descriptor (slice_get ws at))) words_after
-      ∙ ap (λ (o : Option Word). address_in (read_as as_descriptor o)) (set_get (row_words rows mother) at w within)
+      ∙ ap (λ (o : Option Word). address_in (read_as as_descriptor o)) (get_set (row_words rows mother) at w within)
       ∙ ap address_in reads ∙ ap Some names
 
   old_child : (k : ℕ) → k ≢ at → child after mother k ≡ child rows mother k
   old_child k h =
       ap (λ (ws : List Word). address_in (read_as as_descriptor (slice_get ws k))) words_after
-      ∙ ap (λ (o : Option Word). address_in (read_as as_descriptor o)) (set_get_other (row_words rows mother) at k w h)
+      ∙ ap (λ (o : Option Word). address_in (read_as as_descriptor o)) (get_set_other (row_words rows mother) at k w h)
 
   below : (k : ℕ) → k < at → k ≢ at
   below k h e = omega (arith, h, e)
 
   pub same_length : length (row_words after mother) ≡ length (row_words rows mother)
-  same_length = ap length words_after ∙ set_length (row_words rows mother) at w
+  same_length = ap length words_after ∙ length_set (row_words rows mother) at w
 
   pub still_there : is_some (row_at after mother) ≡ true
   still_there = has_words (row_at after mother) (omega (arith, same_length, within))
@@ -161,12 +144,12 @@ module _ (before rows : Rows) (mother at : ℕ) (row : Row) (w : Word) (d : Desc
     open_one_more k x h e =
         ⊎_elim
         (λ (i : k ≡ at).
-        let same : address ≡ x = some_same address x (sym new_child ∙ ap (λ (n : ℕ). child after mother n) (sym i) ∙ e) in
+        let same : address ≡ x = one_target address x (sym new_child ∙ ap (λ (n : ℕ). child after mother n) (sym i) ∙ e) in
         subst (λ (n : ℕ). is_some (row_at after n) ≡ true) same (ap is_some new_row))
         (λ (l : k < at).
         let was : child rows mother k ≡ Some x = sym (old_child k (below k l)) ∙ e in
         let c = more.children k (omega arith) l in
-        let is_x : c.address ≡ x = some_same c.address x (sym c.described ∙ was) in
+        let is_x : c.address ≡ x = one_target c.address x (sym c.described ∙ was) in
         let not_mother : x ≢ mother = λ (j : x ≡ mother). c.apart (is_x ∙ j) in
         let there : is_some (row_at rows x) ≡ true = opens k x l was in
         ap is_some (old_row x not_mother (λ (j : x ≡ address). gone x j there)) ∙ there)
@@ -191,7 +174,7 @@ module _ (before rows after : Rows) (mother at to : ℕ) (more : HasMore before 
   this = more.children at (omega arith) within
 
   mother_kept : row_at after mother ≡ row_at rows mother
-  mother_kept = kept mother (λ (e : child rows mother at ≡ Some mother). this.apart (some_same this.address mother (sym this.described ∙ e)))
+  mother_kept = kept mother (λ (e : child rows mother at ≡ Some mother). this.apart (one_target this.address mother (sym this.described ∙ e)))
 
   same_child : (k : ℕ) → child after mother k ≡ child rows mother k
   same_child k = child_same rows after mother k mother_kept
@@ -205,13 +188,13 @@ module _ (before rows after : Rows) (mother at to : ℕ) (more : HasMore before 
       (λ (e : x ≡ this.address).
       ap (λ (n : ℕ). row_at after n) e ∙ closed this.address this.described ∙ sym this.fresh ∙ ap (λ (n : ℕ). row_at before n) (sym e))
       (λ (ne : x ≢ this.address).
-      kept x (λ (e : child rows mother at ≡ Some x). ne (sym (some_same this.address x (sym this.described ∙ e)))) ∙ more.others x h (absent ne))
+      kept x (λ (e : child rows mother at ≡ Some x). ne (sym (one_target this.address x (sym this.described ∙ e)))) ∙ more.others x h (absent ne))
       (cases_eq x this.address)
     where
       absent : x ≢ this.address → (k : ℕ) → at ≤ k → k < to → child rows mother k ≡ Some x → ⊥
       absent ne k low l e =
           ⊎_elim
-          (λ (i : at ≡ k). ne (sym (some_same this.address x (sym this.described ∙ ap (λ (n : ℕ). child rows mother n) i ∙ e))))
+          (λ (i : at ≡ k). ne (sym (one_target this.address x (sym this.described ∙ ap (λ (n : ℕ). child rows mother n) i ∙ e))))
           (λ (m : at < k). none k (omega (arith, m)) l (same_child k ∙ e))
           (eq-or-lt_of_le low)
 

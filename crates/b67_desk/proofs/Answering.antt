@@ -40,7 +40,7 @@ use Rattle.b67_desk.specs.declared.asking.Asked.TheVariants as asked
 use Rattle.b67_desk.specs.declared.asking.Found.TheVariants as found
 use Rattle.b67_desk.specs.Answers.{order_of, usage_text, refused_text, listing_text, Workers, by_one, by_all, DeskRuns, ran, Lists, listed, trial_text, Tries, tried, AnswersTree, IsSourceOf, IsRefusedAt, RefusedOr, refused, accepted, IsDivided, AnswersBytes, ReadsInput, AnswersInput, long_part, divided, most_bytes, AnswersSource, too_long, too_long_text, read, Reading, Untouched, AnswersCommand, Answers, usage, answered, ReadsIfAsked, Writing, HasAnswer, write_fault}
 use Rattle.b67_desk.specs.Ends.{status_of}
-use Rattle.b67_desk.specs.Calls.{IsReported, Asks, settled, InRange, SourceIsFound, SourceAsked, CommandAsked, CallAsked, CallAnswered, IsUsage, IsRefusal, IsReportAnswer, IsTrialAnswer, IsRunAnswer, IsTooLong}
+use Rattle.b67_desk.specs.Calls.{IsReported, Asks, settled, InRange, SourceIsFound, SourceAsked, CommandAsked, CallAsked, IsUsage, IsRefusal, IsReportAnswer, IsTrialAnswer, IsRunAnswer, IsTooLong}
 
 -- ---- what is asked for
 
@@ -231,10 +231,6 @@ pub run_answered : (by : Workers) (words : List (List ℕ)) (r : Reading) (job :
 run_answered by words r job a asks is =
     subst (λ (t : List ℕ). Answers by words r t a.status) (sym is.told.text)
     (subst (λ (s : Status). Answers by words r (ReportText is.report) s) (sym is.told.status) (asks.1 by is.report is.reported))
-
-pub none_answered : (by : Workers) (words : List (List ℕ)) (r : Reading) (e : Unanswered) → CallAsked words r (Err e) → CallAnswered by words r (Err e)
-none_answered by words r why.ReadFault is = is
-none_answered by words r why.NoMemory is = is
 
 pub not_written : (by : Workers) (words : List (List ℕ)) (r : Reading) (w : Writing) (text : List ℕ) (s : Status) (e : WriteAll) → Answers by words r text s → WroteFront w.written w.written_after text e → Rose w.faults w.faults_after →
     HasAnswer by words r w status.WriteFault

@@ -1,4 +1,3 @@
-pub mod Laws
 pub mod Sizes
 pub mod Judged
 pub mod JudgedJust

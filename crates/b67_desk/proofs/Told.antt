@@ -27,10 +27,10 @@ use Rattle.b67_explain.specs.Shared.{ExplainsShared}
 use Rattle.b67_explain.specs.Telling.{CanBeTold, AreOfFirst, IsReportOf}
 use Rattle.b67_explain.proofs.Explained.{replay_explained}
 use Rattle.b67_explain.proofs.Ran.{left_can_be_told, left_alone_explained, left_shared_explained}
+use Rattle.algol_laws.proofs.Growing.{each_grows}
 use Rattle.b67_desk.specs.declared.asking.Job.{Job}
 use Rattle.b67_desk.specs.Answers.{by_one, order_of}
 use Rattle.b67_desk.specs.Calls.{ReportIsLeft, IsReported}
-use Rattle.b67_desk.proofs.Laws.{runs_grow}
 
 pub segments_short : (code : Code) → IsListable code → All (λ (segment : Segment). length segment.words ≤ MOST_SEGMENT_WORDS) code.segments
 segments_short code listable = λ k first inside. (listable.segments k first inside).1.few
@@ -46,7 +46,7 @@ kept_short code kept tree faithful same =
 pub ran_can_be_told : (code kept : Code) (tree : PProgram) → Faithful tree code → (budget : ℕ) (m : MachineModel) (schedule : ScheduleModel) (answer : Replayed) → answer ≢ NoMemory →
     kept ≡ code → HasRun kept budget m schedule answer → CanBeTold answer (machine_end m)
 ran_can_be_told code kept tree faithful budget m schedule answer some same run =
-    left_can_be_told runs_grow tree code faithful budget m schedule answer some (subst (λ (k : Code). HasRun k budget m schedule answer) same run)
+    left_can_be_told each_grows tree code faithful budget m schedule answer some (subst (λ (k : Code). HasRun k budget m schedule answer) same run)
 
 pub alone_can_be_told : (code kept : Code) (tree : PProgram) → Faithful tree code → (budget : ℕ) (pick : Pick) (m : MachineModel) (schedule : ScheduleModel) (answer : Replayed) →
     answer ≢ NoMemory → kept ≡ code → HasRunAlone kept budget pick m schedule answer → CanBeTold answer (machine_end m)
@@ -65,7 +65,7 @@ pub run_reported : (job : Job) (m : MachineModel) (answer : Replayed) (schedule 
     IfOk result (ReportIsLeft m answer lines job.processors schedule) → IfOk result (λ report. report.acts ≡ acts) → ListingText job.code lines → IfOk result (IsReported by_one job)
 run_reported job m answer schedule alone acts first lines (Ok report) left same listed = λ tree faithful.
     let x : ExplainsAlone tree (order_place_of (order_of job.rule)) job.processors job.budget report =
-    left_alone_explained runs_grow tree job.code faithful job.budget m schedule answer left.some job.processors lines report left.is left.valid listed (order_place_of (order_of job.rule)) alone
+    left_alone_explained each_grows tree job.code faithful job.budget m schedule answer left.some job.processors lines report left.is left.valid listed (order_place_of (order_of job.rule)) alone
     (same ∙ first) in
     record { explains = x.explains; alone = λ one. x; shared = λ more. absurd (more refl) }
 run_reported job m answer schedule alone acts first lines (Err e) left same listed = left
@@ -76,7 +76,7 @@ pub share_reported : (job : Job) (m : MachineModel) (answer : Replayed) (schedul
     IfOk result (ReportIsLeft m answer lines job.processors schedule) → IfOk result (λ report. report.acts ≡ acts) → ListingText job.code lines →
     IfOk result (λ report. (tree : PProgram) → Faithful tree job.code → ExplainsShared tree (order_place_of (order_of job.rule)) job.processors job.budget report)
 share_reported job m answer schedule acts run lines (Ok report) left same listed = λ tree faithful.
-    left_shared_explained runs_grow tree job.code faithful job.budget m schedule answer left.some job.processors lines report left.is left.valid listed (order_place_of (order_of job.rule)) acts
+    left_shared_explained each_grows tree job.code faithful job.budget m schedule answer left.some job.processors lines report left.is left.valid listed (order_place_of (order_of job.rule)) acts
     same run
 share_reported job m answer schedule acts run lines (Err e) left same listed = left
 
@@ -85,5 +85,5 @@ pub replay_answered : (code : Code) (given : Given) (budget : ℕ) (m : MachineM
     (lines : List (List ℕ)) (result : Result Report AllocError) → IfOk result (ReportIsLeft m answer lines 1 schedule) → ListingText code lines →
     IfOk result (λ report. (tree : PProgram) → Faithful tree code → ExplainsReplay tree given budget report)
 replay_answered code given budget m answer schedule replays lines (Ok report) left listed =
-    λ tree faithful. replay_explained runs_grow tree code faithful given budget m answer schedule replays lines report left.is left.valid listed
+    λ tree faithful. replay_explained each_grows tree code faithful given budget m answer schedule replays lines report left.is left.valid listed
 replay_answered code given budget m answer schedule replays lines (Err e) left listed = left

@@ -1,5 +1,5 @@
 -- A replay whose end is that of a whole schedule has performed all of it.
-use Rattle.std.proofs.Common.{arith, ◌≡◌, inl, inr, refl, ap, sym, ◌∙◌, subst, ℕ, ◌+◌, ◌≤◌, Bool, true, List, [], ◌∷◌, ◌++◌, Option, Some, None, Result, Ok, Err}
+use Rattle.std.proofs.Common.{arith, ◌≡◌, inl, inr, ap, sym, ◌∙◌, subst, ℕ, ◌+◌, ◌≤◌, List, [], ◌∷◌, ◌++◌, Option, Some, Result, Ok, Err}
 use Rattle.std.specs.Prelude.{IfOk, sum}
 use Rattle.std.proofs.lemmas.List.{append-nil}
 use Rattle.std.specs.declared.alloc.AllocError.{AllocError}
@@ -12,9 +12,8 @@ use Rattle.b67_report.specs.declared.Report.{Report}
 use Rattle.b67_report.specs.declared.EndWords.{EndWords}
 use Rattle.b67_listing.specs.Listings.{ListingText}
 use Rattle.b67_segment.specs.declared.code.Code.{Code}
-use Rattle.b67_table.specs.Image.{Image, is_able}
-use Rattle.b67_list.specs.Numbered.{numbered}
-use Rattle.b67_table.specs.Ending.{ImageEnd, image_end, goes_on, may_act}
+use Rattle.b67_table.specs.Image.{Image}
+use Rattle.b67_table.specs.Ending.{image_end}
 use Rattle.b67_table.specs.Runs.{TableRun}
 use Rattle.b67_machine.specs.declared.replay.Replayed.{Replayed}
 use Rattle.b67_machine.specs.declared.replay.Replayed.TheVariants.{Ended, Ran, Illegal, BudgetSpent, NoMemory, Differs}
@@ -24,6 +23,7 @@ use Rattle.b67_machine.specs.Reads.{machine_end, machine_end_by, limit_end}
 use Rattle.b67_machine.specs.Replaying.{Replays, ReplaysEntries, ReplayAnswers, MayGo, ReplayAtLimit, tails_of}
 use Rattle.b67_explain.specs.Telling.{EndTells}
 use Rattle.b67_console.specs.Telling.{RunsWhole}
+use Rattle.b67_explorer.proofs.Fitting.{goes_there}
 use Rattle.b67_desk.specs.Calls.{ReportIsLeft}
 use Rattle.b67_desk.specs.Commanded.{IsPerformed}
 use Rattle.b67_desk.specs.Consoling.{IsWholeSchedule}
@@ -32,15 +32,6 @@ use Rattle.b67_desk.specs.Consoling.{IsWholeSchedule}
 record AllDone (left : List ℕ) (tail : ℕ) : Type 0 where
   none : left ≡ []
   quiet : tail ≡ 0
-
--- what may go on has no end
-no_end : (e : Option ImageEnd) (able_now : Bool) → goes_on e able_now ≡ true → e ≡ None
-no_end None able_now h = refl
-no_end (Some x) able_now h = cc
-
-goes_without_end : (img : Image) (p : ℕ) → may_act img p ≡ true → image_end img ≡ None
-unfolding may_act
-goes_without_end img p h = no_end (image_end img) (is_able (numbered img.states p)) h
 
 -- the end that is the stack limit is not that of a whole schedule
 limit_told : (m : MachineModel) (p : ℕ) (end : EndWords) → machine_end m ≡ limit_end (Some p) m.image.regs → EndTells Ended (machine_end m) end → IsWholeSchedule end → ⊥
@@ -52,7 +43,7 @@ limit_not_whole : (code : Code) (m : MachineModel) (img : Image) (left : List �
     EndTells Ended (machine_end m) end → IsWholeSchedule end → ⊥
 limit_not_whole code m img [] end there goes at tells whole = goes
 limit_not_whole code m img (p ∷ left) end there goes at tells whole =
-    limit_told m p end (ap (λ o. machine_end_by o m) (ap image_end there ∙ goes_without_end img p goes) ∙ ap (λ o. limit_end o m.image.regs) at.1) tells whole
+    limit_told m p end (ap (λ o. machine_end_by o m) (ap image_end there ∙ goes_there img p goes) ∙ ap (λ o. limit_end o m.image.regs) at.1) tells whole
 
 all_done : (code : Code) (given : List ℕ) (budget : ℕ) (done : List ℕ) (noted : List Letter) (m : MachineModel) (answer : Replayed) (end : EndWords)
     (r : ReplaysEntries code given budget done noted m answer) → EndTells answer (machine_end m) end → IsWholeSchedule end → AllDone r.left r.tail

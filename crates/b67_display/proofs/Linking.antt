@@ -20,9 +20,6 @@ seen_then st (at place more) k = seen_then st (more (word_at st place)) k
 seen_then st (several place n more) k = seen_then st (more _) k
 
 module _ (st : Stacks) (link : Place) (known : List (Option Place)) where
-  onward : ℕ → Mscw → Look (List (Option Place))
-  onward n m = links n (link_of m) (Some link ∷ known)
-
   linked_on : (n below : ℕ) (r : Result Mscw InterruptKind) → below ≡ n + 2 → look_seen st (linked_frame link below) ≡ r
       → look_seen st (links (suc n) link known) ≡ after r (λ m. look_seen st (links n (link_of m) (Some link ∷ known)))
   linked_on n below r e f =
@@ -56,12 +53,6 @@ unknown_set d rest n x e = ap (λ (z : List (Option Place)). set z n x) e ∙ go
     go (suc k) = ap (λ (z : List (Option Place)). None ∷ z) (go k)
 
 -- ---- the beginning
-
-none_left : (n k : ℕ) → drop n (replicate (n + k) None) ≡ replicate {A = Option Place} k None
-none_left zero k = ap (λ (j : ℕ). replicate {A = Option Place} j None) (omega arith)
-none_left (suc n) k =
-    let j_is : suc n + k ≡ suc (n + k) = omega arith in
-    ap (λ (j : ℕ). drop (suc n) (replicate {A = Option Place} j None)) j_is ∙ none_left n k
 
 none_before : (n k : ℕ) → replicate {A = Option Place} (suc n + k) None ≡ replicate (suc n) None ++ replicate k None
 none_before zero k =

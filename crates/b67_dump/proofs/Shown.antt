@@ -7,7 +7,7 @@ use Rattle.algol_meaning.specs.Run.{start}
 use Rattle.b67_judge.specs.Judging.{IsFirstIllegal}
 use Rattle.b67_judge.specs.Walked.{WalksBeside}
 use Rattle.b67_judge.specs.declared.walking.Walked.TheVariants.{Whole, Stopped}
-use Rattle.b67_judge.proofs.Verdicts.{run_is}
+use Rattle.algol_lean.proofs.InUse.{run_is}
 use Rattle.b67_dump.specs.Snapshots.{snapshot}
 use Rattle.b67_dump.specs.Dumps.{IsShownAfter}
 use Rattle.b67_dump.proofs.Lean.{snapshots_lean}

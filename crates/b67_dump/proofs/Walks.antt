@@ -4,10 +4,11 @@ use Rattle.algol_tree.specs.Scopes.{Scopes}
 use Rattle.algol_meaning.specs.World.{World}
 use Rattle.b67_schedule.specs.declared.Run.{Run}
 use Rattle.b67_schedule.specs.Schedules.{entries}
+use Rattle.b67_schedule.proofs.Cited.{entries_drop}
 use Rattle.algol_lean.specs.Beside.{RunsBeside}
 use Rattle.b67_judge.specs.Walked.{GoesAsFar, WalksBeside}
 use Rattle.b67_judge.specs.declared.walking.Walked.TheVariants.{Whole, Stopped}
-use Rattle.b67_judge.proofs.Steps.{Stands, stands_more, stops_so, entries_drop}
+use Rattle.b67_judge.proofs.Steps.{Stands, stands_more, stops_so}
 use Rattle.b67_judge.proofs.Beside.{StandsBeside, stands_beside, whole_beside}
 
 -- of so many entries the first ones are of the first run
@@ -69,12 +70,12 @@ module _ (sc sc' : Scopes) (most : ℕ) (runs : List Run) (i : ℕ) (d : Run) (w
         beside = went.goes.beside;
       }
 
-take-none : (k : ℕ) → take {A = ℕ} k [] ≡ []
-take-none zero = refl
-take-none (suc k) = refl
+take_none : (k : ℕ) → take {A = ℕ} k [] ≡ []
+take_none zero = refl
+take_none (suc k) = refl
 
 -- no run is left
 pub first_whole : (sc : Scopes) (most : ℕ) (runs : List Run) (w now : World) (left : ℕ) (rest : List Run) → rest ≡ [] → FirstBeside sc most runs w now left rest
     → WalksBeside sc (take most (entries runs)) w now Whole
 first_whole sc most runs w now left rest none s =
-    whole_beside sc (take most (entries runs)) w now (most - left) (take left (entries rest)) (ap (λ (rs : List Run). take left (entries rs)) none ∙ take-none left) s
+    whole_beside sc (take most (entries runs)) w now (most - left) (take left (entries rest)) (ap (λ (rs : List Run). take left (entries rs)) none ∙ take_none left) s

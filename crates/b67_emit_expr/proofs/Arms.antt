@@ -13,12 +13,13 @@ use Rattle.algol_tree.specs.Counts.{expr_tokens, variable_tokens, call_tokens}
 use Rattle.algol_tree.specs.Image.{expr, exprs, variable, call}
 use Rattle.algol_tree.specs.Plain as tree
 use Rattle.algol_tree.specs.Plain.{PExpr}
+use Rattle.algol_tree.proofs.Images.{call_is}
 use Rattle.b67_ops.specs.Intrinsics.{intrinsic_of}
 use Rattle.b67_segment.specs.Building.{Built}
 use Rattle.b67_templates.specs.Paying.{inline}
 use Rattle.b67_emitter.specs.declared.names.Names.{Names}
 use Rattle.b67_emitter.specs.Values.{meanings, HasCode, ValueEmitted, ValueWithExits, HasCall, CallEmitted, HasEvents, EventsEmitted}
-use Rattle.b67_emit_expr.proofs.Shapes.{naming_is, call_is, calling_is}
+use Rattle.b67_emit_expr.proofs.Shapes.{naming_is, calling_is}
 use Rattle.b67_emit_expr.proofs.Forms.{listed_as, variable_form, tested_form, call_form}
 
 pub on_ok_both : {T E P Q R : Type 0} (r : Result T E) → (P → Q → R) → OnOk r P → OnOk r Q → OnOk r R

@@ -12,6 +12,7 @@ use Rattle.algol_tree.specs.Plain as tree
 use Rattle.algol_tree.specs.Plain.{PCall, PExprs}
 use Rattle.algol_tree.specs.Sorts.{Sort}
 use Rattle.algol_tree.specs.Scopes.{Scopes}
+use Rattle.algol_tree.proofs.Images.{call_is}
 use Rattle.algol_meaning.specs.Settle.{sorts_of}
 use Rattle.b67_ops.specs.declared.Couple.{Couple}
 use Rattle.b67_ops.specs.declared.Operator.TheVariants as ops
@@ -32,7 +33,6 @@ use Rattle.b67_emitter.proofs.Appends.{same_level}
 use Rattle.b67_emitter.proofs.Composing.{then, weaker}
 use Rattle.b67_emitter.proofs.Seen.{seen_further}
 use Rattle.b67_emit_expr.specs.Passing.{HasActual, ActualEmitted}
-use Rattle.b67_emit_expr.proofs.Shapes.{call_is}
 use Rattle.b67_emit_expr.proofs.Couples.{known_procedure, seen_procedure}
 use Rattle.b67_emit_expr.proofs.Calls.{call_filled}
 use Rattle.b67_emit_expr.proofs.Actuals.{Left, all_left, none_left, next_has, next_left}

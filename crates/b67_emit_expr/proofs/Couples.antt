@@ -14,7 +14,6 @@ use Rattle.algol_tree.specs.Scopes.{Scopes, use_of}
 use Rattle.algol_paths.specs.Arrays.{Shape}
 use Rattle.b67_ops.specs.declared.Couple.{Couple}
 use Rattle.b67_ops.specs.Spelling.{CoupleIsSeen}
-use Rattle.b67_segment.specs.Building.{Built}
 use Rattle.b67_templates.specs.Cells.{IsRead, of_variable, of_formal, IsArray, declared, formal}
 use Rattle.b67_templates.specs.Fitting as fitting
 use Rattle.b67_templates.specs.Fitting.{couple_on_left, PlaceFits, ProcedureFits, ArrayFits}
@@ -27,10 +26,6 @@ use Rattle.b67_emit_expr.specs.Naming.{NameMeans, NameHasCode}
 
 pub code_on : (s : Names) (l m : ℕ) (e : PExpr) → m ≡ l → HasCode s l e → HasCode s m e
 code_on s l m e same h = let H : ℕ → Type 0 = λ n. HasCode s n e in subst H (sym same) h
-
--- the level is set as long as it is the same
-pub set_after : (a b : Built) → b.level ≡ a.level → IsSome a.level → IsSome b.level
-set_after a b same h = let S : Option ℕ → Type 0 = λ o. IsSome o in subst S (sym same) h
 
 module _ (s : Names) (level : ℕ) where
   -- the first of two operands

@@ -5,6 +5,7 @@ use Rattle.algol_tree.specs.declared.tree.Variable.{Variable}
 use Rattle.algol_tree.specs.Image.{exprs, variable}
 use Rattle.algol_tree.specs.Plain as tree
 use Rattle.algol_tree.specs.Plain.{PVariable}
+use Rattle.algol_tree.proofs.Images.{variable_is}
 use Rattle.b67_ops.specs.declared.Operator.TheVariants as ops
 use Rattle.b67_ops.specs.declared.PlainKind.TheVariants as kinds
 use Rattle.b67_segment.specs.Operators.{size}
@@ -19,7 +20,6 @@ use Rattle.b67_emitter.proofs.Appends.{same_level}
 use Rattle.b67_emitter.proofs.Composing.{then, weaker}
 use Rattle.b67_emit_expr.specs.Naming.{NameHasCode, NameEmitted}
 use Rattle.b67_emit_expr.specs.Subscripting.{HasSubscripts, SubscriptsEmitted}
-use Rattle.b67_emit_expr.proofs.Shapes.{variable_is}
 
 -- ---- which it is
 

@@ -8,8 +8,8 @@ use Rattle.algol_tree.specs.Cells.{first_spot}
 use Rattle.algol_tree.specs.Plain as tree
 use Rattle.algol_tree.specs.Plain.{PExpr}
 use Rattle.algol_tree.specs.Scopes.{Scopes, use_of}
-use Rattle.algol_tree.specs.Sorts as sorts
-use Rattle.algol_tree.specs.Sorts.{Sort, is_variable, procedure_in}
+use Rattle.algol_tree.specs.Sorts.{procedure_in}
+use Rattle.algol_tree.proofs.Trees.{formal_no_procedure, variable_no_procedure}
 use Rattle.algol_meaning.specs.Statements.{alone}
 use Rattle.b67_ops.specs.declared.Couple.{Couple}
 use Rattle.b67_ops.specs.declared.Operator.TheVariants as ops
@@ -33,13 +33,6 @@ use Rattle.b67_emit_expr.specs.Passing.{reaching, ActualFits, HasActual, ActualE
 use Rattle.b67_emitter.proofs.Seen.{some, seen_up, seen_further}
 
 -- ---- an actual that has a cell is no variable or parameter by itself
-
-variable_no_procedure : (sort : Sort) → is_variable sort ≡ true → is_some (procedure_in sort) ≡ false
-variable_no_procedure (sorts.procedure block) is = absurd (let clash : false ≡ true = is in cc)
-variable_no_procedure sort is = refl
-
-formal_no_procedure : (sort : Sort) → sort ≡ sorts.by_name → is_some (procedure_in sort) ≡ false
-formal_no_procedure sort is = ap (λ (x : Sort). is_some (procedure_in x)) is
 
 read_no_procedure : (scopes : Scopes) (level : ℕ) (n : Named) (kind : Kind) (c : Couple) → IsRead scopes level n kind c → is_some (procedure_in ((use_of scopes n).sort)) ≡ false
 read_no_procedure scopes level n kind c (of_variable v) = variable_no_procedure ((use_of scopes n).sort) v.variable

@@ -7,6 +7,7 @@ use Rattle.algol_tree.specs.Plain as tree
 use Rattle.algol_tree.specs.Plain.{PExpr, name_alone}
 use Rattle.algol_tree.specs.Scopes.{Scopes, use_of}
 use Rattle.algol_tree.specs.Sorts.{is_formal}
+use Rattle.algol_tree.proofs.Alone.{named_alone}
 use Rattle.algol_paths.specs.Arrays.{Lows, Shape}
 use Rattle.b67_ops.specs.declared.Couple.{Couple}
 use Rattle.b67_ops.specs.Spelling.{CoupleIsSeen}
@@ -29,10 +30,6 @@ use Rattle.b67_emit_expr.specs.Passing.{passed_as, passed, if_passed, passed_alo
 use Rattle.b67_emit_expr.proofs.Couples.{known_array, seen_array}
 
 -- ---- a name by itself
-
-alone_is : (e : PExpr) (n : Named) → name_alone e ≡ Some n → e ≡ tree.variable (tree.subscripted n tree.none)
-alone_is (tree.variable (tree.subscripted m tree.none)) n is = let same : m ≡ n = cc in ap (λ (x : Named). tree.variable (tree.subscripted x tree.none)) same
-alone_is e n is = absurd (let clash : None ≡ Some n = is in cc)
 
 -- what is meant is no event
 no_event : (m : Meant) → meant_is_event m ≡ false → meant_event_in m ≡ None
@@ -118,18 +115,18 @@ module _ (s : Names) (level block : ℕ) (e : PExpr) where
   wanted_passed scopes (wants.value kind) n off is fits =
       let found = found_alone s e n is in
       let F : PExpr → Type 0 = λ x. ActualFits s scopes level block (wants.value kind) x in
-      let own : F (tree.variable (tree.subscripted n tree.none)) = subst F (alone_is e n found.0) fits in
+      let own : F (tree.variable (tree.subscripted n tree.none)) = subst F (named_alone e n found.0) fits in
       let none : passed s n ≡ None = ap (λ (o : Option Lows). passed_as (meant_event_in (meant s n.spot)) o) own.1 ∙ ap (λ (o : Option Bool). passed_as o None) (no_event (meant s n.spot) own.2) in
       let S : Option Bool → Type 0 = λ o. IsSome o in
       absurd (let clash : S None = subst S none found.1 in cc)
   wanted_passed scopes (wants.array shape) n off is (m, same, fits) =
       let found = found_alone s e n is in
-      let one : m ≡ n = cc (sym same ∙ alone_is e n found.0) in
+      let one : m ≡ n = cc (sym same ∙ named_alone e n found.0) in
       let F : Named → Type 0 = λ x. (a : Shape) × ArrayFits scopes (meanings s) level x a × ShapeAgrees shape a in
       inl (shape, refl, subst F one fits)
   wanted_passed scopes wants.event n off is (m, same, fits) =
       let found = found_alone s e n is in
-      let one : m ≡ n = cc (sym same ∙ alone_is e n found.0) in
+      let one : m ≡ n = cc (sym same ∙ named_alone e n found.0) in
       let F : Named → Type 0 = λ x. EventFits scopes (meanings s) level x in
       inr (refl, subst F one fits)
   wanted_passed scopes (wants.by_name kind) n off is fits = absurd (let clash : true ≡ false = off in cc)
@@ -169,7 +166,7 @@ module _ (s : Names) (level : ℕ) (e : PExpr) where
         by (inr (wish, fits)) = event_seen s h.scopes h.own n c near known fits
 
     pub actual_syllables : inline (meanings s) e ≡ 12
-    actual_syllables = let found = found_alone s e n is in ap (inline (meanings s)) (alone_is e n found.0)
+    actual_syllables = let found = found_alone s e n is in ap (inline (meanings s)) (named_alone e n found.0)
 
     pub passed_form : (a b : Built) (c : Couple) (own : Bool) → AreNear s → couples s n.spot ≡ Some c → passed s n ≡ Some own →
         ((scopes : Scopes) (context : Context) (shape x : Shape) (m : Named) → IsArray scopes context.level m x c → own ≡ is_formal ((use_of scopes m).sort) → ShapeAgrees shape x →
@@ -190,7 +187,7 @@ module _ (s : Names) (level : ℕ) (e : PExpr) where
             subst W (sym wish)
             (weaker (λ qs. ActualAt scopes context qs level (wants.array shape) e (size a.operators) (size b.operators))
             (array scopes context shape x n (subst I same fits.array) (array_formal s scopes context.level n x own near told fits) agrees)
-            (λ qs p. (n, alone_is e n found.0, p)))
+            (λ qs p. (n, named_alone e n found.0, p)))
         by scopes context wanted (inr (wish, fits)) =
             let found = found_alone s e n is in
             let formal : own ≡ is_formal ((use_of scopes n).sort) = cc (event_passed s scopes context.level n fits, told) in
@@ -198,7 +195,7 @@ module _ (s : Names) (level : ℕ) (e : PExpr) where
             subst W (sym wish)
             (weaker (λ qs. ActualAt scopes context qs level wants.event e (size a.operators) (size b.operators))
             (event scopes context n (event_found s scopes context.level n c known fits) formal)
-            (λ qs p. (n, alone_is e n found.0, p)))
+            (λ qs p. (n, named_alone e n found.0, p)))
 
   -- ---- a value
 

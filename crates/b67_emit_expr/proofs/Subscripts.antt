@@ -12,6 +12,7 @@ use Rattle.algol_tree.specs.Plain as tree
 use Rattle.algol_tree.specs.Plain.{PExprs, PVariable}
 use Rattle.algol_tree.specs.Scopes.{Scopes, use_of}
 use Rattle.algol_tree.specs.Sorts.{is_formal}
+use Rattle.algol_tree.proofs.Images.{variable_is}
 use Rattle.algol_paths.specs.Arrays as arrays
 use Rattle.algol_paths.specs.Arrays.{Shape}
 use Rattle.b67_ops.specs.declared.Couple.{Couple}
@@ -34,7 +35,7 @@ use Rattle.b67_emitter.proofs.Appends.{same_level}
 use Rattle.b67_emitter.proofs.Composing.{then, weaker}
 use Rattle.b67_emitter.proofs.Seen.{some, seen_further}
 use Rattle.b67_emit_expr.specs.Subscripting.{SubscriptEmitted, HasSubscripts, SubscriptsEmitted}
-use Rattle.b67_emit_expr.proofs.Shapes.{variable_is, own_name, own_subscripts}
+use Rattle.b67_emit_expr.proofs.Shapes.{own_name, own_subscripts}
 use Rattle.b67_emit_expr.proofs.Couples.{known_array, seen_array}
 
 -- ---- tokens, and syllables

@@ -20,6 +20,7 @@ use Rattle.b67_templates.specs.Emitting.{AreExits, Emitted, EmittedWithExits}
 use Rattle.b67_templates.specs.Fragments.{Has, BranchAt, EntryAt, over, stop}
 use Rattle.b67_emitter.specs.Aiming.{Aimed}
 use Rattle.b67_emitter.specs.Values.{meanings}
+use Rattle.b67_emitter.proofs.Appends.{same_level}
 use Rattle.b67_emit_stmt.specs.declared.draft.Draft.{Draft}
 use Rattle.b67_emit_stmt.specs.declared.draft.Known.{Known}
 use Rattle.b67_emit_stmt.specs.Actuals.{images, exprs_of, AreInner, HaveValues}
@@ -30,7 +31,7 @@ use Rattle.b67_emit_stmt.specs.Fits.{InsideFits, EmittedStmtsFit}
 use Rattle.b67_emit_stmt.specs.Lengths.{begin_syllables, celled_in, routines_syllables, stmts_syllables}
 use Rattle.b67_emit_stmt.specs.Places.{Place, CellsAt, RoutinesAt, StmtsAt}
 use Rattle.b67_emit_stmt.proofs.Aims.{exits_lie, hole_as}
-use Rattle.b67_emit_stmt.proofs.Drafts.{at_level, closed, emits_then, emits_weaker, hole_closed, hole_there, level_after, level_same, piece, set_after}
+use Rattle.b67_emit_stmt.proofs.Drafts.{at_level, closed, emits_then, emits_weaker, hole_closed, hole_there, level_after, piece, set_after}
 use Rattle.b67_emit_stmt.proofs.Levels.{at_after, set_back}
 use Rattle.b67_emit_stmt.proofs.Matched.{ready_behind, ready_less}
 use Rattle.b67_emit_stmt.proofs.Parts.{leveled, plain_at}
@@ -231,7 +232,7 @@ inner_coded s ds ss a d inner outer level begin set i o h = λ sc same fit.
 
 module _ (s : Known) (ds : PDecls) (ss : PStmts) (a b : Draft) (over_level : b.out.level ≡ a.out.level) (wide : size b.out.operators ≡ size a.out.operators + 3) where
   pub inside_fit : HaveFitInside s a ds ss → HaveFitInside s b ds ss
-  inside_fit fits = let F : ℕ → Type 0 = λ l. InsideFits fits.0 s (l + 1) ds ss in (fits.0, fits.1, subst F (sym (level_same a.out b.out over_level)) fits.2)
+  inside_fit fits = let F : ℕ → Type 0 = λ l. InsideFits fits.0 s (l + 1) ds ss in (fits.0, fits.1, subst F (sym (same_level a.out b.out over_level)) fits.2)
 
   pub block_ready : draft_noted b ≡ draft_noted a → IsReady s a (inner_syllables s ds ss) → IsReady s b (block_syllables s ds ss)
   block_ready fs r = ready_behind s a b (inner_syllables s ds ss) (block_syllables s ds ss) r over_level fs (omega (arith, wide)) (omega (arith, wide))
@@ -270,12 +271,12 @@ module _ (s : Known) (ds : PDecls) (ss : PStmts) (a b : Draft) (over_level : b.o
           size e.out.operators ≤ size d.out.operators + 14 → EmitsInner s a e ds ss
       inner_stands e es fs es' fs' es'' fs'' entry short = λ sc same fit.
           let level = level_set a.out in
-          let q : level_set b.out ≡ level = level_same a.out b.out over_level in
+          let q : level_set b.out ≡ level = same_level a.out b.out over_level in
           let F : ℕ → Type 0 = λ n. InsideFits sc s (n + 1) ds ss in
           let I : ℕ → Type 0 = λ n. Emits (block_syllables s ds ss) b c (λ later qs target. BlockAt sc later qs (n + 1) ds ss begin) in
           let made : I level = subst I q (code sc same (subst F (sym q) fit)) in
           let round = hole_closed 3 there (omega (arith, wide)) es fs made aimed es' fs' in
-          let r : level_set d.out ≡ level = level_same a.out d.out (aimed.level ∙ made.code.level ∙ over_level) in
+          let r : level_set d.out ≡ level = same_level a.out d.out (aimed.level ∙ made.code.level ∙ over_level) in
           let last : Emits 14 d e (λ later qs target. EntryAt qs level s.segment begin (size d.out.operators) (size e.out.operators)) =
           piece {n = 14} {d = d} {e = e} es'' fs'' round.few
           (λ later. leveled (λ l qs. EntryAt qs l s.segment begin (size d.out.operators) (size e.out.operators)) level r entry) short in

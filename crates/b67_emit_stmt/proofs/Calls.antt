@@ -14,10 +14,10 @@ use Rattle.b67_templates.specs.Code.{DroppedAt}
 use Rattle.b67_templates.specs.Emitting.{Emitted}
 use Rattle.b67_emitter.specs.Values.{CallEmitted, HasCall, results}
 use Rattle.b67_emitter.proofs.Composing.{then, weaker}
+use Rattle.b67_emitter.proofs.Appends.{same_level}
 use Rattle.b67_emit_stmt.specs.declared.draft.Known.{Known}
 use Rattle.b67_emit_stmt.specs.Fits.{CallStmtFits}
 use Rattle.b67_emit_stmt.specs.Places.{Later, Place, CallStmtAt, context_in}
-use Rattle.b67_emit_stmt.proofs.Drafts.{level_same}
 use Rattle.b67_emit_stmt.proofs.Parts.{leveled}
 
 module _ (s : Known) (n : Named) (es : PExprs) (c : PCall) (is : c ≡ tree.called n es) where
@@ -43,6 +43,6 @@ module _ (s : Known) (n : Named) (es : PExprs) (c : PCall) (is : c ≡ tree.call
   call_part sc later typed a b d same known h k fit =
       let result = (block_numbered sc.scopes.blocks fit.0).result in
       let call = h.code sc.scopes (context_in sc later (level_set a)) n es fit.0 is fit.1 fit.2 in
-      let drop = leveled (λ l qs. DroppedAt sc.scopes (context_in sc later (level_set a)) qs l result (size b.operators) (size d.operators)) (level_set a) (level_same a b same)
+      let drop = leveled (λ l qs. DroppedAt sc.scopes (context_in sc later (level_set a)) qs l result (size b.operators) (size d.operators)) (level_set a) (same_level a b same)
       (k sc.scopes (context_in sc later (level_set a)) result (known ∙ fit.1.typed)) in
       weaker (λ qs. CallStmtAt sc later qs (level_set a) n es (size a.operators) (size d.operators)) (then call drop) (λ qs p. (fit.0, size b.operators, p.0, p.1))

@@ -1,10 +1,11 @@
 -- CASE: the branches of a table are aimed one after another, each when its statement begins.
 use Rattle.std.proofs.Common.{◌≡◌, ◌≢◌, ℕ, zero, suc, ◌+◌, ◌*◌, ◌≤◌, ◌<◌, true, false, List, [], ◌∷◌, ◌++◌, length, refl, sym, ap, ◌∙◌, subst, arith, append_assoc, length-append}
 use Rattle.std.specs.Prelude.{nat_eq, Bool}
-use Rattle.std.proofs.lemmas.Bool.{ne_eqb, eq-eqb}
+use Rattle.std.proofs.lemmas.Bool.{ne_eqb}
 use Rattle.std.proofs.lemmas.List.{append-nil}
 use Rattle.algol_tree.specs.declared.tree.Stmt.{Stmt}
 use Rattle.algol_tree.specs.Image.{stmt, stmts}
+use Rattle.b67_list.proofs.Truths.{or_second}
 use Rattle.b67_emit_stmt.specs.Places.{Later, Place, StmtAt, CasesAt}
 use Rattle.b67_ops.specs.declared.Operator.{Operator}
 use Rattle.b67_ops.specs.declared.Operator.TheVariants.{Branch}
@@ -14,14 +15,15 @@ use Rattle.b67_segment.specs.Operators.{Placed, StandsAmong, size}
 use Rattle.b67_templates.specs.Fragments.{Has, BranchAt, FragmentGoes, over, stop}
 use Rattle.b67_templates.specs.Emitting.{OperatorsStay, Emitted, number_is_among, Leaves, AreExits}
 use Rattle.b67_emitter.specs.Aiming.{Aimed}
-use Rattle.b67_emitter.proofs.Exits.{next-behind, is_among-append, or-left, or-right, none_before, none_behind, exits_kept, exits-append}
+use Rattle.b67_emitter.proofs.Exits.{next_behind, is_among_append, or_left, none_before, none_behind, exits_kept, exits_append}
+use Rattle.b67_emitter.proofs.Appends.{among_itself}
 use Rattle.b67_emit_stmt.specs.declared.draft.Draft.{Draft}
 use Rattle.b67_emit_stmt.specs.declared.draft.Known.{Known}
 use Rattle.b67_emit_stmt.specs.Drafts.{DraftAgrees, FormatsCanBeListed, NotedGrows, HasFew, Emits, draft_noted}
 use Rattle.b67_emit_stmt.specs.Cases.{EntriesAt}
 use Rattle.b67_emit_stmt.specs.Lengths.{stmt_syllables, stmts_syllables}
 use Rattle.b67_emit_stmt.proofs.Notes.{agrees_front, agrees_same, formats_same, grows_equal, grows_then, listed_equal}
-use Rattle.b67_emit_stmt.proofs.Lists.{syllables-append}
+use Rattle.b67_emit_stmt.proofs.Lists.{syllables_append}
 
 -- ---- tables
 
@@ -47,23 +49,20 @@ entries_more ps level (suc many) f m t h k e = (h.0, entries_more ps level many 
 
 -- ---- statements after a table
 
-pub cases-append : (sc : Place) (later : Later) (qs : List Placed) (level : ℕ) (xs : List Stmt) (y : Stmt) (entry u p x : ℕ) →
+pub cases_append : (sc : Place) (later : Later) (qs : List Placed) (level : ℕ) (xs : List Stmt) (y : Stmt) (entry u p x : ℕ) →
     CasesAt sc later qs level (stmts xs) entry u → BranchAt qs level Brun (entry + 3 * length xs) p (entry + 3 * length xs + 3) →
     StmtAt sc later qs level (stmt y) p x u → FragmentGoes qs level x u → CasesAt sc later qs level (stmts (xs ++ y ∷ [])) entry u
-cases-append sc later qs level [] y entry u p x h b s g =
+cases_append sc later qs level [] y entry u p x h b s g =
     let B : ℕ → Type 0 = λ e. BranchAt qs level Brun e p (e + 3) in
     let same : entry + 3 * 0 ≡ entry = omega arith in
     (p, x, subst B same b, s, g, tt)
-cases-append sc later qs level (z ∷ xs) y entry u p x h b s g =
+cases_append sc later qs level (z ∷ xs) y entry u p x h b s g =
     let B : ℕ → Type 0 = λ e. BranchAt qs level Brun e p (e + 3) in
     let same : entry + 3 * length (z ∷ xs) ≡ entry + 3 + 3 * length xs = omega arith in
-    (h.0, h.1, h.2, h.3, h.4, cases-append sc later qs level xs y (entry + 3) u p x h.5 (subst B same b) s g)
+    (h.0, h.1, h.2, h.3, h.4, cases_append sc later qs level xs y (entry + 3) u p x h.5 (subst B same b) s g)
 
 single_out : (x at : ℕ) → x ≢ at → number_is_among (x ∷ []) at ≡ false
 single_out x at h = let e : nat_eq x at ≡ false = ne_eqb x at h in rw e refl
-
-single_in : (x : ℕ) → number_is_among (x ∷ []) x ≡ true
-single_in x = let e : nat_eq x x ≡ true = eq-eqb x x refl in rw e refl
 
 -- what stands in the table up to a place, and after the table, stands still, but the exits, which go to that target
 pub record Partly (exits : List ℕ) (target from upto behind to : ℕ) (ps qs : List Placed) : Type 0 where
@@ -95,9 +94,9 @@ pub record Midcase (known : Known) (sc : Place) (level : ℕ) (done : List Stmt)
       Partly exits target (size a.out.operators) (size a.out.operators + 3 * length done) (size t.out.operators) (size c.out.operators) c.out.operators qs →
       CasesAt sc later qs level (stmts done) (size a.out.operators) target
 
-pub midcase-first : (known : Known) (sc : Place) (level many : ℕ) (a t : Draft) → HasFew a → t.exits.items ≡ a.exits.items → draft_noted t ≡ draft_noted a →
+pub midcase_first : (known : Known) (sc : Place) (level many : ℕ) (a t : Draft) → HasFew a → t.exits.items ≡ a.exits.items → draft_noted t ≡ draft_noted a →
     Emitted a.out t.out (λ qs. EntriesAt qs level many (size a.out.operators) (size t.out.operators)) → Midcase known sc level [] many a t t
-midcase-first known sc level many a t few es fs h =
+midcase_first known sc level many a t few es fs h =
     let here = h.claimed t.out.operators (λ at level next op lo hi s. s) in
     let E : ℕ → Type 0 = λ from. EntriesAt t.out.operators level many from (size t.out.operators) in
     record {
@@ -143,7 +142,7 @@ module _ (known : Known) (sc : Place) (level : ℕ) (done : List Stmt) (left : �
 
   exits_there : AreExits f.out.operators (m.exits ++ g.code.exits) (size t.out.operators) (size f.out.operators)
   exits_there =
-      exits-append f.out.operators m.exits g.code.exits (size t.out.operators) (size f.out.operators)
+      exits_append f.out.operators m.exits g.code.exits (size t.out.operators) (size f.out.operators)
       (exits_kept c.out.operators f.out.operators m.exits (size t.out.operators) (size c.out.operators) (size t.out.operators) (size f.out.operators) (omega arith)
       (omega (arith, aim.place, g.code.grown))
       (λ at l next old kind lo hi st. (old, through at l next (Branch kind old) (λ q. omega (arith, within)) hi st)) m.are)
@@ -157,10 +156,10 @@ module _ (known : Known) (sc : Place) (level : ℕ) (done : List Stmt) (left : �
   no_old at hi = none_behind c.out.operators m.exits (size t.out.operators) (size c.out.operators) at m.are hi
 
   old_alone : (at : ℕ) (b : Bool) → at < size c.out.operators → number_is_among m.exits at ≡ b → number_is_among (m.exits ++ g.code.exits) at ≡ b
-  old_alone at b lo q = is_among-append m.exits g.code.exits at ∙ or-left (number_is_among m.exits at) (number_is_among g.code.exits at) (no_new at lo) ∙ q
+  old_alone at b lo q = is_among_append m.exits g.code.exits at ∙ or_left (number_is_among m.exits at) (number_is_among g.code.exits at) (no_new at lo) ∙ q
 
   new_alone : (at : ℕ) (b : Bool) → size c.out.operators ≤ at → number_is_among g.code.exits at ≡ b → number_is_among (m.exits ++ g.code.exits) at ≡ b
-  new_alone at b hi q = is_among-append m.exits g.code.exits at ∙ or-right (number_is_among m.exits at) (number_is_among g.code.exits at) (no_old at hi) ∙ q
+  new_alone at b hi q = is_among_append m.exits g.code.exits at ∙ or_second (number_is_among m.exits at) (number_is_among g.code.exits at) (no_old at hi) ∙ q
 
   module _ (qs : List Placed) (target : ℕ)
       (l : Partly (m.exits ++ g.code.exits) target (size a.out.operators) (size a.out.operators + 3 * length (done ++ s ∷ [])) (size t.out.operators) (size f.out.operators) f.out.operators qs) where
@@ -168,15 +167,15 @@ module _ (known : Known) (sc : Place) (level : ℕ) (done : List Stmt) (left : �
     unfolding x
     before = record {
       table = λ at level' next op out lo up hi st.
-          let behind = next-behind c.out.operators at level' next op st in
+          let behind = next_behind c.out.operators at level' next op st in
           l.table at level' next op (old_alone at false (omega arith) out) lo (omega (arith, long)) (omega (arith, aim.place, g.code.grown))
           (through at level' next op (λ q. omega (arith, q)) hi st);
       code = λ at level' next op out lo hi st.
-          let behind = next-behind c.out.operators at level' next op st in
+          let behind = next_behind c.out.operators at level' next op st in
           l.code at level' next op (old_alone at false (omega arith) out) lo (omega (arith, aim.place, g.code.grown))
           (through at level' next op (λ q. omega (arith, within, q)) hi st);
       aimed = λ at level' next old kind among lo hi st.
-          let behind = next-behind c.out.operators at level' next (Branch kind old) st in
+          let behind = next_behind c.out.operators at level' next (Branch kind old) st in
           l.aimed at level' next old kind (old_alone at true (omega arith) among) lo (omega (arith, aim.place, g.code.grown))
           (through at level' next (Branch kind old) (λ q. omega (arith, within, q)) hi st);
     }
@@ -197,7 +196,7 @@ module _ (known : Known) (sc : Place) (level : ℕ) (done : List Stmt) (left : �
         let U : ℕ → Type 0 = λ to. StandsAmong qs x level (Branch Brun to) (x + 3) in
         let aimed : StandsAmong d.out.operators x level (Branch Brun (size c.out.operators)) (x + 3) =
         subst T is
-        (aim.leaves.aimed entry level (x + 3) 0 Brun (single_in entry) (omega arith) (omega (arith, within, m.grown)) (subst S (sym is) m.pending.0)) in
+        (aim.leaves.aimed entry level (x + 3) 0 Brun (among_itself entry) (omega arith) (omega (arith, within, m.grown)) (subst S (sym is) m.pending.0)) in
         record {
           stands = subst U (sym aim.place)
               (l.table x level (x + 3) (Branch Brun (size c.out.operators))
@@ -214,24 +213,24 @@ module _ (known : Known) (sc : Place) (level : ℕ) (done : List Stmt) (left : �
         let part = g.code.claimed qs target hi behind later k in
         let first = m.claimed later (agrees_same fs (agrees_front g.notes k)) qs target
         (omega (arith, aim.place, g.code.grown)) before in
-        cases-append sc later qs level done s (size a.out.operators) target (size d.out.operators) (size e.out.operators) first branch part.0
+        cases_append sc later qs level done s (size a.out.operators) target (size d.out.operators) (size e.out.operators) first branch part.0
         (over (size f.out.operators) part.1 stop)
 
-  pub midcase-more : Midcase known sc level (done ++ s ∷ []) left a t f
+  pub midcase_more : Midcase known sc level (done ++ s ∷ []) left a t f
   unfolding x
-  midcase-more =
+  midcase_more =
       let E : ℕ → Type 0 = λ from. EntriesAt f.out.operators level left from (size t.out.operators) in
       record {
         level_is = g.code.level ∙ aim.level ∙ m.level_is;
         begun = m.begun;
         grown = omega (arith, m.grown, aim.place, g.code.grown);
-        short = omega (arith, m.short, g.short, aim.place, narrow, length-append done (s ∷ []), syllables-append known done s []);
+        short = omega (arith, m.short, g.short, aim.place, narrow, length-append done (s ∷ []), syllables_append known done s []);
         notes = grows_then (omega (arith, m.begun, m.grown)) m.notes (grows_then (omega (arith, aim.place)) (grows_equal {n = size c.out.operators} fs) g.notes);
         few = g.few;
         more = omega (arith, m.more, formats_same fs, aim.place, g.more);
         listed = λ l. g.listed (listed_equal fs (m.listed l));
         kept = λ at l next op lo hi st.
-            let behind = next-behind a.out.operators at l next op st in
+            let behind = next_behind a.out.operators at l next op st in
             through at l next op (λ q. omega (arith, q)) (omega (arith, m.begun, m.grown)) (m.kept at l next op lo hi st);
         exits = m.exits ++ g.code.exits;
         added = g.code.added ∙ ap (λ z. z ++ g.code.exits) (es ∙ m.added) ∙ append_assoc a.exits.items m.exits g.code.exits;
@@ -243,10 +242,10 @@ module _ (known : Known) (sc : Place) (level : ℕ) (done : List Stmt) (left : �
       }
 
 -- all statements are done
-pub midcase-last : (known : Known) (sc : Place) (level : ℕ) (done : List Stmt) (a t c : Draft) (n : ℕ) → Midcase known sc level done zero a t c →
+pub midcase_last : (known : Known) (sc : Place) (level : ℕ) (done : List Stmt) (a t c : Draft) (n : ℕ) → Midcase known sc level done zero a t c →
     size c.out.operators ≤ size a.out.operators + n →
     Emits n a c (λ later qs target. CasesAt sc later qs level (stmts done) (size a.out.operators) target)
-midcase-last known sc level done a t c n m short =
+midcase_last known sc level done a t c n m short =
     let all : size t.out.operators ≡ size a.out.operators + 3 * length done = sym m.pending in
     record {
       code = record {

@@ -6,11 +6,11 @@ use Rattle.algol_tree.specs.declared.tree.Kind.TheVariants as types
 use Rattle.algol_tree.specs.declared.tree.Named.{Named}
 use Rattle.algol_tree.specs.Plain as tree
 use Rattle.algol_tree.specs.Plain.{PExpr, PExprs, PPair, PStmt, PStmts, PDecls}
-use Rattle.algol_tree.specs.Sorts as sorts
-use Rattle.algol_tree.specs.Sorts.{Sort, is_variable, procedure_in}
+use Rattle.algol_tree.specs.Sorts.{Sort, procedure_in}
 use Rattle.algol_tree.specs.Types.{taken_by}
 use Rattle.algol_tree.specs.Blocks.{block_numbered}
 use Rattle.algol_tree.specs.Scopes.{Scopes, use_of}
+use Rattle.algol_tree.proofs.Trees.{formal_no_procedure, variable_no_procedure}
 use Rattle.algol_meaning.specs.Settle.{block_of_sort, sorts_of}
 use Rattle.algol_meaning.specs.Statements.{alone}
 use Rattle.b67_ops.specs.declared.Couple.{Couple}
@@ -30,13 +30,6 @@ both xs ys {ps} {qs} p q =
     map-append (λ (a : Actual). a.expr) xs ys ∙ ap (λ (zs : List PExpr). zs ++ exprs_of ys) p ∙ ap (λ (zs : List PExpr). ps ++ zs) q
 
 -- ---- one actual that is given by name
-
-pub variable_no_procedure : (sort : Sort) → is_variable sort ≡ true → is_some (procedure_in sort) ≡ false
-variable_no_procedure (sorts.procedure block) is = absurd (let clash : false ≡ true = is in cc)
-variable_no_procedure sort is = refl
-
-pub formal_no_procedure : (sort : Sort) → sort ≡ sorts.by_name → is_some (procedure_in sort) ≡ false
-formal_no_procedure sort is = ap (λ (x : Sort). is_some (procedure_in x)) is
 
 module _ (sc : Scopes) (told : Told) (level block : ℕ) (k : Kind) (n : Named) where
   read_no_procedure : (c : Couple) → IsRead sc level n k c → is_some (procedure_in ((use_of sc n).sort)) ≡ false

@@ -1,5 +1,5 @@
 -- The code of actuals, one after another.
-use Rattle.std.proofs.Common.{◌≡◌, ℕ, zero, suc, ◌+◌, ◌≤◌, Bool, true, false, List, [], ◌∷◌, ◌++◌, length, map, drop, refl, sym, ap, ◌∙◌, subst, arith, append-nil, append_assoc}
+use Rattle.std.proofs.Common.{◌≡◌, ℕ, zero, suc, ◌+◌, ◌≤◌, Bool, true, false, List, [], ◌∷◌, ◌++◌, length, drop, refl, sym, ap, ◌∙◌, subst, arith, append-nil, append_assoc}
 use Rattle.std.specs.Prelude.{◌==◌, Option, Some}
 use Rattle.std.specs.Borrow.{Bor}
 use Rattle.std.specs.List.{All}
@@ -20,6 +20,8 @@ use Rattle.b67_templates.specs.Fitting.{ExprFits}
 use Rattle.b67_templates.specs.Paying.{routine_code}
 use Rattle.b67_emitter.specs.Values.{HasCode, RoutineEmitted, meanings}
 use Rattle.b67_emitter.proofs.Composing.{then, weaker}
+use Rattle.b67_emitter.proofs.Appends.{same_level}
+use Rattle.b67_list.proofs.Lists.{drop_map}
 use Rattle.b67_emit_stmt.specs.declared.draft.Draft.{Draft}
 use Rattle.b67_emit_stmt.specs.declared.draft.Known.{Known}
 use Rattle.b67_emit_stmt.specs.Actuals.{exprs_of, images, HaveValues}
@@ -27,7 +29,7 @@ use Rattle.b67_emit_stmt.specs.Bodies.{AreActuals, CodesEmitted, EmitsRoutines}
 use Rattle.b67_emit_stmt.specs.Drafts.{Emits, HasFew, DraftIsAt}
 use Rattle.b67_emit_stmt.specs.Lengths.{expr_syllables, routines_syllables}
 use Rattle.b67_emit_stmt.specs.Places.{Later, Place, RoutinesAt, context_in}
-use Rattle.b67_emit_stmt.proofs.Drafts.{emits_none, emits_weaker, level_same, piece}
+use Rattle.b67_emit_stmt.proofs.Drafts.{piece}
 use Rattle.b67_emit_stmt.proofs.Levels.{set_back}
 use Rattle.b67_emit_stmt.proofs.Parts.{emitted_none}
 
@@ -38,11 +40,6 @@ behind {X} (y ∷ ys) zero x rest is = cc
 behind {X} [] zero x rest is = cc
 behind {X} [] (suc i) x rest is = cc
 behind {X} (y ∷ ys) (suc i) x rest is = let n : suc i + 1 ≡ suc (i + 1) = omega arith in ap (λ (k : ℕ). drop k (y ∷ ys)) n ∙ behind ys i x rest is
-
-drop_map : {X Y : Type 0} (f : X → Y) (xs : List X) (i : ℕ) → map f (drop i xs) ≡ drop i (map f xs)
-drop_map {X} {Y} f xs zero = refl
-drop_map {X} {Y} f [] (suc i) = refl
-drop_map {X} {Y} f (x ∷ xs) (suc i) = drop_map f xs i
 
 pub all_more : {X : Type 0} (P : X → Type 0) (xs : List X) (x : X) → All P xs → P x → All P (xs ++ x ∷ [])
 all_more {X} P xs x h k = All-append P xs (x ∷ []) h (All-cons P x [] k (All-nil P))
@@ -59,9 +56,6 @@ as_many own xs same =
 -- whether there are any
 pub some_of : (empty : Bool) (n : ℕ) → empty ≡ (n == 0) → empty ≡ false → 1 ≤ n
 some_of empty n is off = grind (arith)
-
-pub none_of : (empty : Bool) (n : ℕ) → empty ≡ (n == 0) → empty ≡ true → n ≡ 0
-none_of empty n is on = grind (arith)
 
 -- ---- lengths
 
@@ -148,7 +142,7 @@ module _ (s : Known) (level : ℕ) (xs : List (Bor Expr)) where
           let F : PExpr → Type 0 = λ e. ExprFits sc.scopes (meanings s.names.now) level sc.block o.kind e in
           let own_code = r.code sc.scopes (context_in sc later level) o.kind (subst F named have.0) in
           let E : PExpr → ℕ → Type 0 = λ e l. Emitted b d (λ qs. code.RoutineAt sc.scopes (context_in sc later level) qs l (record { expr = e; kind = o.kind }) (size b.operators)) in
-          let at_own : E o.expr (level_set a) = subst (E o.expr) (level_same a b same) (subst (λ e. E e (level_set b)) (sym named) own_code) in
+          let at_own : E o.expr (level_set a) = subst (E o.expr) (same_level a b same) (subst (λ e. E e (level_set b)) (sym named) own_code) in
           weaker
           (λ qs. (more : List ℕ) → R qs (drop (i + 1) own) more → R qs own ((places ++ place ∷ []) ++ more))
           (then (h sc later own are) at_own)
@@ -168,17 +162,7 @@ module _ (s : Known) (level : ℕ) (xs : List (Bor Expr)) where
 
 -- ---- in a draft
 
-none_own : (own : List Actual) (xs : List (Bor Expr)) → length xs ≡ 0 → exprs_of own ≡ images xs → own ≡ []
-none_own [] xs none same = refl
-none_own (a ∷ own) xs none same = absurd (omega (arith, as_many (a ∷ own) xs same, none))
-
 module _ (s : Known) (level : ℕ) (xs : List (Bor Expr)) (a : Draft) where
-  pub none_emitted : length xs ≡ 0 → HasFew a → EmitsRoutines s level a a (images xs) []
-  none_emitted none few = λ sc own are.
-      let R : Later → List Placed → ℕ → Type 0 = λ later qs target. RoutinesAt sc later qs level own [] in
-      emits_weaker R (emits_none a few) (omega arith)
-      (λ later qs target hi p. subst (λ (l : List Actual). RoutinesAt sc later qs level l []) (sym (none_own own xs none are.same)) refl)
-
   -- the level is one higher for a while
   module _ (inner : Built) (d' outer : Built) (places : List ℕ) (at : DraftIsAt level a) (i : inner ≡ record a.out { level = Some (level + 1) }) (few : HasFew a)
       (codes : CodesEmitted s level inner d' (images xs) places) (short : size d'.operators ≤ size inner.operators + routines_syllables s (images xs))

@@ -1,14 +1,15 @@
 -- Code that is added to a draft after other code.
 use Rattle.std.proofs.Common.{◌≡◌, ℕ, ◌+◌, ◌≤◌, List, [], length, take, drop, refl, sym, ap, ◌∙◌, subst, arith, length-append}
-use Rattle.std.specs.Prelude.{unwrap_or, Option, IsSome}
+use Rattle.std.specs.Prelude.{Option, IsSome}
 use Rattle.std.proofs.lemmas.List.{append-nil, take_at, drop_at}
 use Rattle.b67_ops.specs.declared.Operator.TheVariants.{Branch}
 use Rattle.b67_segment.specs.Operators.{Placed, size}
-use Rattle.b67_segment.specs.Building.{Built, level_set}
+use Rattle.b67_segment.specs.Building.{level_set}
 use Rattle.b67_templates.specs.Emitting.{Emitted, EmittedWithExits, AreExits}
 use Rattle.b67_emitter.specs.Aiming.{Aimed}
 use Rattle.b67_emitter.proofs.Exits.{exits_kept}
 use Rattle.b67_emitter.proofs.Composing.{weaker_exits, no_exits, then_exits, all_aimed, aimed_later}
+use Rattle.b67_emitter.proofs.Appends.{same_level}
 use Rattle.b67_emit_stmt.specs.declared.draft.Draft.{Draft}
 use Rattle.b67_emit_stmt.specs.Drafts.{DraftAgrees, HasFew, Emits, draft_noted}
 use Rattle.b67_emit_stmt.specs.Places.{Later}
@@ -16,11 +17,8 @@ use Rattle.b67_emit_stmt.proofs.Notes.{agrees_front, agrees_same, formats_same, 
 
 -- ---- levels
 
-pub level_same : (a b : Built) → b.level ≡ a.level → level_set b ≡ level_set a
-level_same a b e = ap (λ (o : Option ℕ). unwrap_or o 0) e
-
 pub level_after : {n : ℕ} {a b : Draft} {P : Later → List Placed → ℕ → Type 0} → Emits n a b P → level_set b.out ≡ level_set a.out
-level_after {n} {a} {b} e = level_same a.out b.out e.code.level
+level_after {n} {a} {b} e = same_level a.out b.out e.code.level
 
 pub set_after : {n : ℕ} {a b : Draft} {P : Later → List Placed → ℕ → Type 0} → Emits n a b P → IsSome a.out.level → IsSome b.out.level
 set_after {n} {a} {b} e h = let S : Option ℕ → Type 0 = λ o. IsSome o in subst S (sym e.code.level) h

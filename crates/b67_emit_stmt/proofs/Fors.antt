@@ -10,6 +10,8 @@ use Rattle.algol_meaning.specs.Statements.{alone}
 use Rattle.b67_segment.specs.declared.TheConstants.{MOST_SEGMENT_SYLLABLES}
 use Rattle.b67_segment.specs.Operators.{size}
 use Rattle.b67_segment.specs.Building.{Built, level_set}
+use Rattle.b67_segment.proofs.Cited.{set_after}
+use Rattle.b67_emitter.proofs.Appends.{same_level}
 use Rattle.b67_emit_stmt.specs.Lengths.{expr_syllables, stmt_syllables}
 use Rattle.b67_templates.specs.Emitting.{Emitted}
 use Rattle.b67_emit_stmt.specs.declared.draft.Draft.{Draft}
@@ -19,10 +21,10 @@ use Rattle.b67_emit_stmt.specs.Emits.{EmitsBody, HasFit}
 use Rattle.b67_emit_stmt.specs.Fits.{AssignFits, EmittedExprFits, ReadFits, EmittedStmtFits, VariableFits}
 use Rattle.b67_emit_stmt.specs.Places.{Later, Place, AssignAt, ExprAt, StepAt}
 use Rattle.b67_emit_stmt.proofs.Arms.{Closed}
-use Rattle.b67_emit_stmt.proofs.Drafts.{emits_then, level_after, level_same}
+use Rattle.b67_emit_stmt.proofs.Drafts.{emits_then, level_after}
 use Rattle.b67_emit_stmt.proofs.Levels.{at_after}
 use Rattle.b67_emit_stmt.proofs.Matched as matched
-use Rattle.b67_emit_stmt.proofs.Parts.{set_same, variable_at}
+use Rattle.b67_emit_stmt.proofs.Parts.{variable_at}
 use Rattle.b67_emit_stmt.proofs.Ready.{body_piece, fit_after, ready_after}
 
 module _ (s : Known) (sc : Place) (v : Named) (first p l : PExpr) (x : PStmt) (a : Draft) (b' d' : Built) (fits : EmittedStmtFits sc s (level_set a.out) (tree.for v first p l x))
@@ -47,10 +49,10 @@ module _ (s : Known) (sc : Place) (v : Named) (first p l : PExpr) (x : PStmt) (a
 
   tested : Emits (3 + expr_syllables s l) b d
       (λ later qs target. ExprAt sc later qs level types.Number (tree.two operators.Sub (alone v) l) (size b'.operators) (size d'.operators) (size d'.operators))
-  tested = matched.compared s sc level v l b d (level_same a.out b' assign_level) refl refl begun.few difference difference_short fits.0.0 fits.3
+  tested = matched.compared s sc level v l b d (same_level a.out b' assign_level) refl refl begun.few difference difference_short fits.0.0 fits.3
 
   behind_test : level_set d' ≡ level
-  behind_test = level_same b' d' difference_level ∙ level_same a.out b' assign_level
+  behind_test = same_level b' d' difference_level ∙ same_level a.out b' assign_level
 
   pub step_ready : IsReady s d (13 + expr_syllables s p)
   step_ready = ready_after s a (stmt_syllables s (tree.for v first p l x)) (13 + expr_syllables s p) ready (emits_then begun tested) (omega arith)
@@ -91,7 +93,7 @@ module _ (s : Known) (sc : Place) (v : Named) (first p l : PExpr) (x : PStmt) (a
         pub turn_needs : (start : ℕ) → start ≡ size b'.operators → IsSome n'.level × (start ≤ size n'.operators) × (size n'.operators + 3 ≤ MOST_SEGMENT_SYLLABLES)
         turn_needs start is =
             let advanced = matched.advanced s sc level v p f (record f { out = n' }) behind_body refl refl performed.few advance advance_short fits.0 fits.2 in (
-              matched.set_ahead n' (emits_then stepped performed) advance_level (set_same a.out d' (difference_level ∙ assign_level) ready.set),
+              matched.set_ahead n' (emits_then stepped performed) advance_level (set_after a.out d' (difference_level ∙ assign_level) ready.set),
               omega (arith, is, tested.code.grown, stepped.code.grown, performed.code.grown, advanced.code.grown),
               omega (arith, performed.short, stepped.short, advance_short, difference_short, assign_short, ready.room),
             )

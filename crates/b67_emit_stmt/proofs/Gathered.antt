@@ -6,15 +6,11 @@ use Rattle.std.specs.declared.alloc.Global.{Global}
 use Rattle.std.proofs.lemmas.Bool.{ne_eqb}
 use Rattle.std.proofs.lemmas.List.{drop_more}
 use Rattle.algol_tree.specs.declared.token.Spot.{Spot}
-use Rattle.algol_tree.specs.declared.tree.Op.{Op}
 use Rattle.algol_tree.specs.declared.tree.Named.{Named}
-use Rattle.algol_tree.specs.declared.tree.Expr as exprs'
 use Rattle.algol_tree.specs.declared.tree.Expr.{Expr}
-use Rattle.algol_tree.specs.declared.tree.Expr.TheVariants as forms
 use Rattle.algol_tree.specs.declared.tree.Stmt as stmts'
 use Rattle.algol_tree.specs.declared.tree.Stmt.{Stmt}
 use Rattle.algol_tree.specs.declared.tree.Stmt.TheVariants as shapes
-use Rattle.algol_tree.specs.declared.tree.Variable as variables'
 use Rattle.algol_tree.specs.declared.tree.Variable.{Variable}
 use Rattle.algol_tree.specs.declared.tree.Body.{Body}
 use Rattle.algol_tree.specs.declared.tree.Decl.{Decl}
@@ -24,6 +20,7 @@ use Rattle.algol_tree.specs.declared.tree.Pair.{Pair}
 use Rattle.algol_tree.specs.Image.{decl, decls, expr, exprs, pairs, stmt, stmts, variable}
 use Rattle.algol_tree.specs.Plain as tree
 use Rattle.algol_tree.specs.Plain.{PExpr, PExprs, PStmt, PStmts, PDecl, PDecls}
+use Rattle.algol_tree.proofs.Images.{variable_is}
 use Rattle.b67_templates.specs.Cells.{has_place}
 use Rattle.b67_templates.specs.Fitting.{Told}
 use Rattle.b67_templates.specs.Paying.{if_known}
@@ -35,9 +32,6 @@ use Rattle.b67_emit_stmt.proofs.Shapes.{assign_as, block_as}
 
 pub joined : (old mid new xs ys all : List PExpr) → all ≡ xs ++ ys → mid ≡ old ++ xs → new ≡ mid ++ ys → new ≡ old ++ all
 joined old mid new xs ys all are first second = second ∙ ap (λ (l : List PExpr). l ++ ys) first ∙ append_assoc old xs ys ∙ ap (λ (l : List PExpr). old ++ l) (sym are)
-
-pub same_as : (old new xs all : List PExpr) → all ≡ xs → new ≡ old ++ xs → new ≡ old ++ all
-same_as old new xs all are h = h ∙ ap (λ (l : List PExpr). old ++ l) (sym are)
 
 -- the same where others are left
 pub carried : (old before own after first second left rest all : List PExpr) → left ≡ first ++ second ++ rest → own ≡ before ++ first → after ≡ own ++ second → before ++ left ≡ old ++ all →
@@ -55,32 +49,6 @@ next_part {A} found one each xs i x before after old all more is here h =
     ap (λ (l : List PExpr). l ++ found rest) here ∙ append_assoc before (one x) (found rest) ∙ ap (λ (l : List PExpr). before ++ l) (sym (ap found split ∙ each x rest)) ∙ h
 
 -- ---- forms of expressions
-
-pub two_as : (e : Expr) (op : Op) (a b : Box Expr Global) (x y : Expr) → e ≡ forms.Two op a b → x ≡ a.value → y ≡ b.value → expr e ≡ tree.two op (expr x) (expr y)
-two_as e op a b x y is first second =
-    ap expr is ∙ own op a b ∙ ap (λ (z : Expr). tree.two op (expr z) (expr b.value)) (sym first) ∙ ap (λ (z : Expr). tree.two op (expr x) (expr z)) (sym second)
-  where
-    own : (op : Op) (a b : Box Expr Global) → expr (forms.Two op a b) ≡ tree.two op (expr a.value) (expr b.value)
-    own op a b = search (rules, exprs'.the_lemmas)
-
-pub if_as : (e : Expr) (c a b : Box Expr Global) (spot : Spot) (x y z : Expr) → e ≡ forms.If c a b spot → x ≡ c.value → y ≡ a.value → z ≡ b.value →
-    expr e ≡ tree.if (expr x) (expr y) (expr z) spot
-if_as e c a b spot x y z is first second third =
-    ap expr is ∙ own c a b spot ∙ ap (λ (w : Expr). tree.if (expr w) (expr a.value) (expr b.value) spot) (sym first)
-    ∙ ap (λ (w : Expr). tree.if (expr x) (expr w) (expr b.value) spot) (sym second) ∙ ap (λ (w : Expr). tree.if (expr x) (expr y) (expr w) spot) (sym third)
-  where
-    own : (c a b : Box Expr Global) (spot : Spot) → expr (forms.If c a b spot) ≡ tree.if (expr c.value) (expr a.value) (expr b.value) spot
-    own c a b spot = search (rules, exprs'.the_lemmas)
-
-variable_is : (v : Variable) → variable v ≡ tree.subscripted v.name (exprs v.subs)
-variable_is v = search (rules, variables'.the_lemmas)
-
-pub variable_as : (e : Expr) (v : Variable) (es : List Expr) → e ≡ forms.Variable v → es ≡ v.subs → expr e ≡ tree.variable (tree.subscripted v.name (exprs es))
-variable_as e v es is same =
-    ap expr is ∙ own v ∙ ap (λ w. tree.variable w) (variable_is v) ∙ ap (λ (l : List Expr). tree.variable (tree.subscripted v.name (exprs l))) (sym same)
-  where
-    own : (v : Variable) → expr (forms.Variable v) ≡ tree.variable (variable v)
-    own v = search (rules, exprs'.the_lemmas)
 
 -- ---- forms of statements
 

@@ -19,6 +19,7 @@ use Rattle.b67_templates.specs.Fragments.{Has, IntrinsicAt, NumberAt}
 use Rattle.b67_emitter.specs.declared.names.Target as kept
 use Rattle.b67_emitter.specs.Values.{labels, target_told}
 use Rattle.b67_emitter.proofs.Composing.{then, weaker}
+use Rattle.b67_list.proofs.Lists.{each_back}
 use Rattle.b67_emit_stmt.specs.declared.draft.Draft.{Draft}
 use Rattle.b67_emit_stmt.specs.declared.draft.Known.{Known}
 use Rattle.b67_emit_stmt.specs.declared.draft.Label.{Label}
@@ -28,7 +29,6 @@ use Rattle.b67_emit_stmt.specs.Lengths.{stmt_syllables}
 use Rattle.b67_emit_stmt.specs.Places.{Later, Place, GoToAt, StmtAt}
 use Rattle.b67_emit_stmt.proofs.Arms.{Stands}
 use Rattle.b67_emit_stmt.proofs.Drafts.{emits_then, emits_weaker}
-use Rattle.b67_emit_stmt.proofs.Notes.{all_back}
 
 -- ---- GO TO
 
@@ -85,7 +85,7 @@ label_piece a b l out es fs ls at few =
         are = tt;
         claimed = λ qs target hi g later known.
             let A : List Label → Type 0 = λ i. AllByRecursion (P later) i in
-            let last = all_back (P later) a.labels.items (l ∷ []) (subst A ls known.labels) in
+            let last = each_back (P later) a.labels.items (l ∷ []) (subst A ls known.labels) in
             last.0 ∙ ap (λ (i : ℕ). Some i) at;
       };
       short = omega (arith, same);

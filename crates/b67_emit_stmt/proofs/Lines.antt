@@ -1,6 +1,5 @@
 -- Formats and lines.
-use Rattle.std.proofs.Common.{◌≡◌, ℕ, ◌+◌, ◌*◌, ◌-◌, ◌≤◌, List, [], ◌∷◌, ◌++◌, refl, sym, subst, arith}
-use Rattle.algol_tree.specs.Spelling.{value_after}
+use Rattle.std.proofs.Common.{◌≡◌, ℕ, ◌+◌, List, [], ◌∷◌, ◌++◌, refl, sym, subst, arith}
 use Rattle.algol_tree.specs.declared.tree.PhraseText.{PhraseText}
 use Rattle.algol_tree.specs.Image.{expr, exprs}
 use Rattle.algol_tree.specs.declared.tree.Expr.{Expr}
@@ -16,11 +15,6 @@ use Rattle.b67_templates.specs.Code.{AreParts, IsCodePart}
 use Rattle.b67_templates.specs.Fitting.{PhraseFits, PhrasesFit}
 use Rattle.b67_emit_stmt.specs.Fits.{EmittedExprFits, LineFits}
 use Rattle.b67_emit_stmt.specs.Lengths.{expr_syllables, items_syllables}
-
--- a number is no less for more digits
-pub value_grows : (n : ℕ) (digits : List ℕ) → n ≤ value_after n digits
-value_grows n [] = omega arith
-value_grows n (d ∷ ds) = omega (arith, value_grows (n * 10 + (d - 48)) ds)
 
 -- each phrase so far is a part, and then the next is
 pub parts_more : (ts : List PhraseText) (ps : List Phrase) (t : PhraseText) (p : Phrase) → AreParts ts ps → IsCodePart t p → AreParts (ts ++ t ∷ []) (ps ++ p ∷ [])
@@ -44,11 +38,11 @@ pub line_syllables : (s : Known) (xs : List Expr) (y : Expr) (ys : List Expr) �
 line_syllables s [] y ys = omega arith
 line_syllables s (x ∷ xs) y ys = omega (arith, line_syllables s xs y ys)
 
-pub line-append : (sc : Place) (later : Later) (qs : List Placed) (level : ℕ) (xs : List Expr) (y : Expr) (f m t : ℕ) → LineAt sc later qs level (exprs xs) f m →
+pub line_append : (sc : Place) (later : Later) (qs : List Placed) (level : ℕ) (xs : List Expr) (y : Expr) (f m t : ℕ) → LineAt sc later qs level (exprs xs) f m →
     ExprAt sc later qs level types.Number (expr y) m t t → LineAt sc later qs level (exprs (xs ++ y ∷ [])) f t
-line-append sc later qs level [] y f m t h k =
+line_append sc later qs level [] y f m t h k =
     let E : ℕ → Type 0 = λ from. ExprAt sc later qs level types.Number (expr y) from t t in (t, subst E (sym h) k, refl)
-line-append sc later qs level (x ∷ xs) y f m t h k = (h.0, h.1, line-append sc later qs level xs y h.0 m t h.2 k)
+line_append sc later qs level (x ∷ xs) y f m t h k = (h.0, h.1, line_append sc later qs level xs y h.0 m t h.2 k)
 
 pub line_part : (sc : Place) (later : Later) (level : ℕ) (xs : List Expr) (y : Expr) (zs : List Expr) (a b c : Built) → zs ≡ xs ++ y ∷ [] →
     Emitted a b (λ qs. LineAt sc later qs level (exprs xs) (size a.operators) (size b.operators)) →
@@ -58,4 +52,4 @@ line_part sc later level xs y zs a b c e h k =
     let Z : List Expr → Type 0 = λ l. Emitted a c (λ qs. LineAt sc later qs level (exprs l) (size a.operators) (size c.operators)) in
     subst Z (sym e)
     (weaker (λ qs. LineAt sc later qs level (exprs (xs ++ y ∷ [])) (size a.operators) (size c.operators)) (then h k)
-    (λ qs p. line-append sc later qs level xs y (size a.operators) (size b.operators) (size c.operators) p.0 p.1))
+    (λ qs p. line_append sc later qs level xs y (size a.operators) (size b.operators) (size c.operators) p.0 p.1))

@@ -13,7 +13,7 @@ use Rattle.b67_emit_stmt.specs.declared.draft.Draft.{Draft}
 use Rattle.b67_emit_stmt.specs.Drafts.{Emits, HasFew, IsReady, draft_noted}
 use Rattle.b67_emit_stmt.specs.Emits.{EmitsStmt}
 use Rattle.b67_emit_stmt.proofs.Drafts.{closed, emits_none, emits_then, emits_weaker, level_after, set_after}
-use Rattle.b67_emit_stmt.proofs.Lists.{around, fits-append, front_more, stands-append, syllables-append}
+use Rattle.b67_emit_stmt.proofs.Lists.{around, fits_append, front_more, stands_append, syllables_append}
 use Rattle.b67_emit_stmt.proofs.Ready.{stmt_piece}
 
 abbrev pub StandTogether : Place → ℕ → List Stmt → Draft → Draft → Later → List Placed → ℕ → Type 0
@@ -27,18 +27,18 @@ pub next_fits : (s : Known) (sc : Place) (level : ℕ) (xs : List Stmt) (i : ℕ
     EmittedStmtFits sc s level (stmt x)
 next_fits s sc level xs i x h e fit =
     let F : List Stmt → Type 0 = λ l. EmittedStmtsFit sc s level (stmts l) in
-    fits-append sc s level (take i xs) x (drop (i + 1) xs) (subst F (around xs i x h e) fit)
+    fits_append sc s level (take i xs) x (drop (i + 1) xs) (subst F (around xs i x h e) fit)
 
 -- the syllables before the next statement, its own and those after it are those of the list
 pub next_syllables : (s : Known) (xs : List Stmt) (i : ℕ) (x : Stmt) → i < length xs → x ≡ get_or xs i x →
     stmts_syllables s (stmts xs) ≡ stmts_syllables s (stmts (take i xs)) + (6 + stmt_syllables s (stmt x)) + stmts_syllables s (stmts (drop (i + 1) xs))
-next_syllables s xs i x h e = ap (λ (l : List Stmt). stmts_syllables s (stmts l)) (around xs i x h e) ∙ syllables-append s (take i xs) x (drop (i + 1) xs)
+next_syllables s xs i x h e = ap (λ (l : List Stmt). stmts_syllables s (stmts l)) (around xs i x h e) ∙ syllables_append s (take i xs) x (drop (i + 1) xs)
 
 -- the syllables up to the next statement
 pub more_syllables : (s : Known) (xs : List Stmt) (i : ℕ) (x : Stmt) → i < length xs → x ≡ get_or xs i x →
     stmts_syllables s (stmts (take (i + 1) xs)) ≡ stmts_syllables s (stmts (take i xs)) + (6 + stmt_syllables s (stmt x))
 more_syllables s xs i x h e =
-    omega (arith, ap (λ (l : List Stmt). stmts_syllables s (stmts l)) (front_more xs i x h e), syllables-append s (take i xs) x [])
+    omega (arith, ap (λ (l : List Stmt). stmts_syllables s (stmts l)) (front_more xs i x h e), syllables_append s (take i xs) x [])
 
 module _ (s : Known) (sc : Place) (level : ℕ) (xs : List Stmt) (i : ℕ) (x : Stmt) (lo : i < length xs) (is : x ≡ get_or xs i x) (a b d : Draft) (first : ℕ)
     (at : first ≡ length a.exits.items) (h : Emits (stmts_syllables s (stmts (take i xs))) a b (StandTogether sc level (take i xs) a b))
@@ -78,5 +78,5 @@ module _ (s : Known) (sc : Place) (level : ℕ) (xs : List Stmt) (i : ℕ) (x : 
       (λ later qs target hi p.
       let T : List Stmt → Type 0 = λ l. S l later qs target in
       subst T (sym more)
-      (stands-append sc later qs level (take i xs) x (size a.out.operators) (size b.out.operators) (size e.out.operators) target p.0
+      (stands_append sc later qs level (take i xs) x (size a.out.operators) (size b.out.operators) (size e.out.operators) target p.0
       (subst (B later qs target) aimed.place p.1)))

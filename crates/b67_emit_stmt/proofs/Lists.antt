@@ -19,24 +19,24 @@ front_more xs i x h e = take_more xs i x h ∙ ap (λ y. take i xs ++ y ∷ []) 
 
 -- ---- lengths
 
-pub syllables-append : (s : Known) (xs : List Stmt) (y : Stmt) (ys : List Stmt) →
+pub syllables_append : (s : Known) (xs : List Stmt) (y : Stmt) (ys : List Stmt) →
     stmts_syllables s (stmts (xs ++ y ∷ ys)) ≡ stmts_syllables s (stmts xs) + (6 + stmt_syllables s (stmt y)) + stmts_syllables s (stmts ys)
-syllables-append s [] y ys = omega arith
-syllables-append s (x ∷ xs) y ys = omega (arith, syllables-append s xs y ys)
+syllables_append s [] y ys = omega arith
+syllables_append s (x ∷ xs) y ys = omega (arith, syllables_append s xs y ys)
 
 -- ---- fitting
 
-pub fits-append : (sc : Place) (known : Known) (level : ℕ) (xs : List Stmt) (y : Stmt) (ys : List Stmt) → EmittedStmtsFit sc known level (stmts (xs ++ y ∷ ys)) →
+pub fits_append : (sc : Place) (known : Known) (level : ℕ) (xs : List Stmt) (y : Stmt) (ys : List Stmt) → EmittedStmtsFit sc known level (stmts (xs ++ y ∷ ys)) →
     EmittedStmtFits sc known level (stmt y)
-fits-append sc known level [] y ys h = h.0
-fits-append sc known level (x ∷ xs) y ys h = fits-append sc known level xs y ys h.1
+fits_append sc known level [] y ys h = h.0
+fits_append sc known level (x ∷ xs) y ys h = fits_append sc known level xs y ys h.1
 
 -- ---- code
 
-pub stands-append : (sc : Place) (later : Later) (qs : List Placed) (level : ℕ) (xs : List Stmt) (y : Stmt) (f m t u : ℕ) →
+pub stands_append : (sc : Place) (later : Later) (qs : List Placed) (level : ℕ) (xs : List Stmt) (y : Stmt) (f m t u : ℕ) →
     StmtsAt sc later qs level (stmts xs) f m m → StmtAt sc later qs level (stmt y) m t u → StmtsAt sc later qs level (stmts (xs ++ y ∷ [])) f t u
-stands-append sc later qs level [] y f m t u h k =
+stands_append sc later qs level [] y f m t u h k =
     let S : ℕ → Type 0 = λ x. StmtAt sc later qs level (stmt y) x t u in subst S (sym h) k
-stands-append sc later qs level (x ∷ []) y f m t u h k = (m, h, k)
-stands-append sc later qs level (x ∷ x' ∷ xs) y f m t u h k =
-    (h.0, h.1, stands-append sc later qs level (x' ∷ xs) y h.0 m t u h.2 k)
+stands_append sc later qs level (x ∷ []) y f m t u h k = (m, h, k)
+stands_append sc later qs level (x ∷ x' ∷ xs) y f m t u h k =
+    (h.0, h.1, stands_append sc later qs level (x' ∷ xs) y h.0 m t u h.2 k)

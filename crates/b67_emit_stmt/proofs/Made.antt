@@ -20,6 +20,7 @@ use Rattle.b67_templates.specs.Cells.{events_in, made_of}
 use Rattle.b67_templates.specs.Code.{AreDimensions}
 use Rattle.b67_templates.specs.Emitting.{Emitted}
 use Rattle.b67_emitter.proofs.Composing.{then, weaker}
+use Rattle.algol_scope.proofs.Bodies.{events_is, tasks_is}
 use Rattle.b67_emit_stmt.specs.declared.draft.Known.{Known}
 use Rattle.b67_emit_stmt.specs.Lengths.{arrays_syllables, decls_syllables}
 use Rattle.b67_emit_stmt.specs.Fits.{BoundsFit, DeclsFit}
@@ -134,19 +135,6 @@ module _ (d : Decl) (kind : Kind) (ns : List Named) (ps : List Pair) (is : d ≡
       subst D (sym arrays_are)
       (weaker (λ qs. DeclsAt sc later qs level (only (tree.arrays kind ns (pairs ps))) (size a.operators) (size x.operators)) h (λ qs p. (size x.operators, p, refl)))
 
--- .. of events, and of tasks
-events_are : (d : Decl) (ns : List Named) → d ≡ shapes.Events ns → decl d ≡ tree.events ns
-events_are d ns is = ap decl is ∙ own ns
-  where
-    own : (ns : List Named) → decl (shapes.Events ns) ≡ tree.events ns
-    own ns = search (rules, the_lemmas)
-
-tasks_are : (d : Decl) (ns : List Named) → d ≡ shapes.Tasks ns → decl d ≡ tree.tasks ns
-tasks_are d ns is = ap decl is ∙ own ns
-  where
-    own : (ns : List Named) → decl (shapes.Tasks ns) ≡ tree.tasks ns
-    own ns = search (rules, the_lemmas)
-
 module _ (d : Decl) (ns : List Named) where
   module _ (sc : Place) (later : Later) (level : ℕ) (a x : Built) (h : Emitted a x (λ qs. EventsMadeAt sc later qs level ns (size a.operators) (size x.operators))) where
     abbrev There : PDecl → Type 0
@@ -154,12 +142,12 @@ module _ (d : Decl) (ns : List Named) where
 
     pub events_there : d ≡ shapes.Events ns → There (decl d)
     events_there is =
-        subst There (sym (events_are d ns is))
+        subst There (sym (events_is d ns is))
         (weaker (λ qs. DeclsAt sc later qs level (only (tree.events ns)) (size a.operators) (size x.operators)) h (λ qs p. (size x.operators, p, refl)))
 
     pub tasks_there : d ≡ shapes.Tasks ns → There (decl d)
     tasks_there is =
-        subst There (sym (tasks_are d ns is))
+        subst There (sym (tasks_is d ns is))
         (weaker (λ qs. DeclsAt sc later qs level (only (tree.tasks ns)) (size a.operators) (size x.operators)) h (λ qs p. (size x.operators, p, refl)))
 
 -- the size of what makes nothing

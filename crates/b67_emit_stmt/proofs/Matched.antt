@@ -16,6 +16,7 @@ use Rattle.algol_meaning.specs.Statements as meaning
 use Rattle.b67_segment.specs.declared.TheConstants.{MOST_SEGMENT_SYLLABLES}
 use Rattle.b67_segment.specs.Operators.{Placed, size}
 use Rattle.b67_segment.specs.Building.{Built, level_set}
+use Rattle.b67_segment.proofs.Cited.{set_after}
 use Rattle.b67_emit_stmt.specs.Lengths.{expr_syllables, stmt_syllables, write_syllables}
 use Rattle.b67_templates.specs.Emitting.{Emitted}
 use Rattle.b67_deeds.specs.Deeds as deeds
@@ -27,7 +28,7 @@ use Rattle.b67_emit_stmt.specs.Emits.{HasFit, EmitsStmt, EmitsThen}
 use Rattle.b67_emit_stmt.proofs.Arms.{Stands, if_else_arm}
 use Rattle.b67_emit_stmt.proofs.Drafts.{at_level, emits_none, emits_weaker, level_after, piece}
 use Rattle.b67_emit_stmt.proofs.Notes.{formats_same}
-use Rattle.b67_emit_stmt.proofs.Parts.{leveled, set_same}
+use Rattle.b67_emit_stmt.proofs.Parts.{leveled}
 use Rattle.b67_emit_stmt.proofs.Ready.{stmt_piece}
 
 -- ---- the same tree
@@ -73,7 +74,7 @@ ready_less s a m k r le = record { set = r.set; near = r.near; inner = r.inner; 
 pub ready_behind : (s : Known) (a b : Draft) (m k : ℕ) → IsReady s a m → b.out.level ≡ a.out.level → draft_noted b ≡ draft_noted a →
     size a.out.operators ≤ size b.out.operators → size b.out.operators + k ≤ size a.out.operators + m → IsReady s b k
 ready_behind s a b m k r l fs grown le = record {
-  set = set_same a.out b.out l r.set;
+  set = set_after a.out b.out l r.set;
   near = r.near;
   inner = r.inner;
   many = r.many;
@@ -95,11 +96,11 @@ empty_emitted s a few = λ sc fit. emits_weaker (Stands sc (level_set a.out) tre
 
 -- a level that was set is still set after code that follows other code
 pub set_behind : {n : ℕ} {b c : Draft} {P : Later → List Placed → ℕ → Type 0} (a : Built) → Emits n b c P → b.out.level ≡ a.level → IsSome a.level → IsSome c.out.level
-set_behind {n} {b} {c} a e l h = set_same a c.out (e.code.level ∙ l) h
+set_behind {n} {b} {c} a e l h = set_after a c.out (e.code.level ∙ l) h
 
 -- the same after code that is followed by other code
 pub set_ahead : {n : ℕ} {a b : Draft} {P : Later → List Placed → ℕ → Type 0} (d : Built) → Emits n a b P → d.level ≡ b.out.level → IsSome a.out.level → IsSome d.level
-set_ahead {n} {a} {b} d e l h = set_same a.out d (l ∙ e.code.level) h
+set_ahead {n} {a} {b} d e l h = set_after a.out d (l ∙ e.code.level) h
 
 -- ---- parts of FOR
 

@@ -14,9 +14,6 @@ use Rattle.b67_emitter.specs.declared.names.Names.{Names}
 use Rattle.algol_tree.specs.declared.TheConstants.{MOST_BLOCK_CELLS}
 use Rattle.b67_emitter.specs.Values.{AreNear, couples, lefts, results}
 
-HasRoom : ℕ → Type 0
-HasRoom bits = 512 ≤ 2 ^ (14 - bits)
-
 either : (b : Bool) (x y : ℕ) → 512 ≤ 2 ^ (14 - x) → 512 ≤ 2 ^ (14 - y) → 512 ≤ 2 ^ (14 - (if b then x else y))
 either true x y p q = p
 either false x y p q = q

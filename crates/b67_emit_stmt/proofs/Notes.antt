@@ -3,6 +3,7 @@ use Rattle.std.proofs.Common.{◌≡◌, ℕ, ◌≤◌, List, [], ◌∷◌, �
 use Rattle.std.specs.List.{AllByRecursion}
 use Rattle.std.proofs.lemmas.List.{append-nil}
 use Rattle.std.specs.Prelude.{None, Some}
+use Rattle.b67_list.proofs.Lists.{each_both, each_front}
 use Rattle.b67_emit_stmt.specs.declared.draft.Label.{Label}
 use Rattle.b67_emit_stmt.specs.Drafts.{DraftAgrees, FormatsCanBeListed, NotedGrows, IsFront, DraftNoted}
 use Rattle.b67_emit_stmt.specs.Places.{Later}
@@ -14,18 +15,6 @@ front_self {X} xs = ([], sym (append-nil xs))
 
 pub front_trans : {X : Type 0} (xs ys zs : List X) → IsFront xs ys → IsFront ys zs → IsFront xs zs
 front_trans {X} xs ys zs h k = (h.0 ++ k.0, k.1 ∙ ap (λ (l : List X). l ++ k.0) h.1 ∙ append_assoc xs h.0 k.0)
-
-pub all_both : {X : Type 0} (P : X → Type 0) (xs ys : List X) → AllByRecursion P xs → AllByRecursion P ys → AllByRecursion P (xs ++ ys)
-all_both {X} P [] ys h k = k
-all_both {X} P (x ∷ xs) ys h k = (h.0, all_both P xs ys h.1 k)
-
-pub all_front : {X : Type 0} (P : X → Type 0) (xs ys : List X) → AllByRecursion P (xs ++ ys) → AllByRecursion P xs
-all_front {X} P [] ys h = tt
-all_front {X} P (x ∷ xs) ys h = (h.0, all_front P xs ys h.1)
-
-pub all_back : {X : Type 0} (P : X → Type 0) (xs ys : List X) → AllByRecursion P (xs ++ ys) → AllByRecursion P ys
-all_back {X} P [] ys h = h
-all_back {X} P (x ∷ xs) ys h = all_back P xs ys h.1
 
 -- ---- what is noted
 
@@ -50,7 +39,7 @@ grows_then {m} {n} {x} {y} {z} le g h = record {
   formats = front_trans x.formats y.formats z.formats g.formats h.formats;
   labels = g.labels ++ h.labels;
   labels_are = h.labels_are ∙ ap (λ (l : List Label). l ++ h.labels) g.labels_are ∙ append_assoc x.labels g.labels h.labels;
-  behind = all_both (λ (l : Label). m ≤ l.place) g.labels h.labels g.behind (earlier m n h.labels le h.behind);
+  behind = each_both (λ (l : Label). m ≤ l.place) g.labels h.labels g.behind (earlier m n h.labels le h.behind);
 }
 
 -- what agrees with all that was noted agrees with what was noted first
@@ -60,7 +49,7 @@ agrees_front {n} {x} {y} {later} g a =
     let A : List Label → Type 0 = λ l. AllByRecursion P l in
     record {
       formats = front_trans x.formats y.formats later.formats g.formats a.formats;
-      labels = all_front P x.labels g.labels (subst A g.labels_are a.labels);
+      labels = each_front P x.labels g.labels (subst A g.labels_are a.labels);
     }
 
 pub agrees_same : {x y : DraftNoted} {later : Later} → y ≡ x → DraftAgrees y later → DraftAgrees x later

@@ -1,6 +1,6 @@
 -- Operators one after another, at the level that was set before all of them.
-use Rattle.std.proofs.Common.{◌≡◌, ℕ, ◌≤◌, Option, List, refl, sym, subst, arith}
-use Rattle.std.specs.Prelude.{IsSome, Result, Ok, Err, OnOk}
+use Rattle.std.proofs.Common.{◌≡◌, ℕ, ◌≤◌, List, refl, sym, subst, arith}
+use Rattle.std.specs.Prelude.{Result, Ok, Err, OnOk}
 use Rattle.algol_tree.specs.declared.tree.Kind.{Kind}
 use Rattle.algol_tree.specs.declared.tree.Kind.TheVariants as types
 use Rattle.algol_tree.specs.declared.tree.Op.TheVariants as operators
@@ -18,16 +18,13 @@ use Rattle.b67_ops.specs.declared.PlainKind.TheVariants as kinds
 use Rattle.b67_segment.specs.Operators.{Placed, size}
 use Rattle.b67_segment.specs.Building.{Built, level_set}
 use Rattle.b67_templates.specs.Fragments.{Has}
-use Rattle.b67_templates.specs.Cells.{IsVariable, IsRead}
+use Rattle.b67_templates.specs.Cells.{IsRead}
 use Rattle.b67_templates.specs.Emitting.{Emitted}
 use Rattle.b67_emit_stmt.specs.Fits.{EmittedExprFits, VariableFits}
 use Rattle.b67_emitter.specs.Values.{HasCode, ValueEmitted}
 use Rattle.b67_emitter.proofs.Composing.{then, weaker}
 
 -- ---- levels
-
-pub set_same : (a b : Built) → b.level ≡ a.level → IsSome a.level → IsSome b.level
-set_same a b e h = let S : Option ℕ → Type 0 = λ o. IsSome o in subst S (sym e) h
 
 pub leveled : {b c : Built} (P : ℕ → List Placed → Type 0) (level : ℕ) → level_set b ≡ level → Emitted b c (P (level_set b)) → Emitted b c (P level)
 leveled {b} {c} P level e h = let F : ℕ → Type 0 = λ l. Emitted b c (P l) in subst F e h
@@ -53,12 +50,6 @@ value_at s b c level sc later k e q v fit =
     (v.code sc.scopes (context_in sc later (level_set b)) k (subst F (sym q) fit))
 
 -- ---- parts of statements
-
-pub reference_part : (sc : Place) (later : Later) (k : Kind) (n : Named) (c : Couple) (a b : Built) → IsVariable sc.scopes (level_set a) n k c →
-    Emitted a b (λ qs. Has qs (level_set a) (size a.operators) (ops.Namc c) (size b.operators)) →
-    Emitted a b (λ qs. PlaceAt sc later qs (level_set a) n k (size a.operators) (size b.operators))
-reference_part sc later k n c a b v h =
-    weaker (λ qs. PlaceAt sc later qs (level_set a) n k (size a.operators) (size b.operators)) h (λ qs p. own (c, v, p))
 
 pub read_part : (sc : Place) (later : Later) (k : Kind) (n : Named) (c : Couple) (a b : Built) → IsRead sc.scopes (level_set a) n k c →
     Emitted a b (λ qs. Has qs (level_set a) (size a.operators) (ops.Valc c) (size b.operators)) →

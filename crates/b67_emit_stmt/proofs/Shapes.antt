@@ -1,64 +1,23 @@
 -- The plain tree of each form of statement, as it is matched.
-use Rattle.std.proofs.Common.{rules, ◌≡◌, List, Option, Some, ap, sym, ◌∙◌}
+use Rattle.std.proofs.Common.{◌≡◌, List, Option, Some, ap, sym, ◌∙◌}
 use Rattle.std.specs.declared.boxed.Box.{Box}
 use Rattle.std.specs.declared.alloc.Global.{Global}
 use Rattle.algol_tree.specs.declared.token.Spot.{Spot}
 use Rattle.algol_tree.specs.declared.tree.Call.{Call}
-use Rattle.algol_tree.specs.declared.tree.Call as calls
 use Rattle.algol_tree.specs.declared.tree.Body.{Body}
-use Rattle.algol_tree.specs.declared.tree.Body as bodies
 use Rattle.b67_deeds.specs.declared.EventAct.{EventAct}
 use Rattle.algol_tree.specs.declared.tree.EventName.{EventName}
 use Rattle.algol_tree.specs.declared.tree.Expr.{Expr}
 use Rattle.algol_tree.specs.declared.tree.Named.{Named}
 use Rattle.algol_tree.specs.declared.tree.PhraseText.{PhraseText}
 use Rattle.algol_tree.specs.declared.tree.Stmt.{Stmt}
-use Rattle.algol_tree.specs.declared.tree.Stmt as stmts'
 use Rattle.algol_tree.specs.declared.tree.Stmt.TheVariants as shapes
 use Rattle.algol_tree.specs.declared.tree.Variable.{Variable}
-use Rattle.algol_tree.specs.Image.{body, call, decls, expr, exprs, stmt, stmts, variable}
+use Rattle.algol_tree.specs.Image.{body, decls, expr, exprs, stmt, stmts, variable}
 use Rattle.algol_tree.specs.Plain as tree
+use Rattle.algol_tree.proofs.Images.{assign_is, block_is, body_is, call_is, call_of_is, event_is, for_is, go_to_is, if_else_is, label_is, process_is, write_is}
 
 -- ---- each form
-
-empty_is : stmt shapes.Empty ≡ tree.empty
-empty_is = search (rules, stmts'.the_lemmas)
-
-assign_is : (v : Variable) (e : Expr) → stmt (shapes.Assign v e) ≡ tree.assign (variable v) (expr e)
-assign_is v e = search (rules, stmts'.the_lemmas)
-
-block_is : (b : Body) → stmt (shapes.Block b) ≡ tree.block (body b)
-block_is b = search (rules, stmts'.the_lemmas)
-
-if_else_is : (e : Expr) (x y : Box Stmt Global) → stmt (shapes.If e x (Some y)) ≡ tree.if_else (expr e) (stmt x.value) (stmt y.value)
-if_else_is e x y = search (rules, stmts'.the_lemmas)
-
-for_is : (v : Named) (a z l : Expr) (b : Box Stmt Global) → stmt (shapes.For v a z l b) ≡ tree.for v (expr a) (expr z) (expr l) (stmt b.value)
-for_is v a z l b = search (rules, stmts'.the_lemmas)
-
-write_is : (n : Named) (spot : Spot) (ps : List PhraseText) (es : List Expr) → stmt (shapes.Write n spot ps es) ≡ tree.write n spot ps (exprs es)
-write_is n spot ps es = search (rules, stmts'.the_lemmas)
-
-pub body_is : (b : Body) → body b ≡ tree.body b.spot (decls b.decls) (stmts b.stmts)
-body_is b = search (rules, bodies.the_lemmas)
-
-pub call_is : (c : Call) → call c ≡ tree.called c.name (exprs c.actuals)
-call_is c = search (rules, calls.the_lemmas)
-
-call_of_is : (c : Call) → stmt (shapes.Call c) ≡ tree.call_of (call c)
-call_of_is c = search (rules, stmts'.the_lemmas)
-
-label_is : (n : Named) (b : Box Stmt Global) → stmt (shapes.Label n b) ≡ tree.label n (stmt b.value)
-label_is n b = search (rules, stmts'.the_lemmas)
-
-go_to_is : (n : Named) → stmt (shapes.GoTo n) ≡ tree.go_to n
-go_to_is n = search (rules, stmts'.the_lemmas)
-
-event_is : (act : EventAct) (e : EventName) → stmt (shapes.Event act e) ≡ tree.event act e
-event_is act e = search (rules, stmts'.the_lemmas)
-
-process_is : (c : Call) (task : Option Named) → stmt (shapes.Process c task) ≡ tree.process (call c) task
-process_is c task = search (rules, stmts'.the_lemmas)
 
 -- ---- the same where a part is named otherwise
 
@@ -76,9 +35,6 @@ call_as s c is = ap stmt is ∙ call_of_is c ∙ ap tree.call_of (call_is c)
 
 pub process_as : (s : Stmt) (c : Call) (task : Option Named) → s ≡ shapes.Process c task → stmt s ≡ tree.process (tree.called c.name (exprs c.actuals)) task
 process_as s c task is = ap stmt is ∙ process_is c task ∙ ap (λ x. tree.process x task) (call_is c)
-
-pub empty_as : (s : Stmt) → s ≡ shapes.Empty → stmt s ≡ tree.empty
-empty_as s is = ap stmt is ∙ empty_is
 
 pub assign_as : (s : Stmt) (v : Variable) (e : Expr) → s ≡ shapes.Assign v e → stmt s ≡ tree.assign (variable v) (expr e)
 assign_as s v e is = ap stmt is ∙ assign_is v e

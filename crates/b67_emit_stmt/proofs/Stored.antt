@@ -14,10 +14,10 @@ use Rattle.b67_templates.specs.Fitting as fitting
 use Rattle.b67_templates.specs.Fitting.{meant_is_name}
 use Rattle.b67_emitter.specs.Values.{lefts, meant}
 use Rattle.b67_emitter.proofs.Composing.{then, weaker}
+use Rattle.b67_emitter.proofs.Appends.{same_level}
 use Rattle.b67_emit_stmt.specs.declared.draft.Known.{Known}
 use Rattle.b67_emit_stmt.specs.Fits.{EmittedPlaceFits}
 use Rattle.b67_emit_stmt.specs.Places.{Later, Place, PlaceAt}
-use Rattle.b67_emit_stmt.proofs.Drafts.{level_same}
 
 module _ (s : Known) (n : Named) (c : Couple) (known : lefts s.names.now n.spot ≡ Some c) (a b : Built)
     (h : Emitted a b (λ qs. Has qs (level_set a) (size a.operators) (ops.Namc c) (size b.operators))) (sc : Place) (k : Kind) (later : Later) where
@@ -39,5 +39,5 @@ module _ (s : Known) (n : Named) (c : Couple) (known : lefts s.names.now n.spot 
   resolved_place on e l x (fitting.own f unnamed) = absurd (let clash : true ≡ false = sym on ∙ unnamed in cc)
   resolved_place on e l x (fitting.resolved d is named v) =
       let K : ℕ → Type 0 = λ i. Emitted b e (λ qs. Has qs i (size b.operators) (ops.Plain kinds.Eval) (size e.operators)) in
-      weaker (λ qs. PlaceAt sc later qs (level_set a) n k (size a.operators) (size e.operators)) (then (named_as d is) (subst K (level_same a b l) x))
+      weaker (λ qs. PlaceAt sc later qs (level_set a) n k (size a.operators) (size e.operators)) (then (named_as d is) (subst K (same_level a b l) x))
       (λ qs y. codes.resolved d (size b.operators) v y.0 y.1)

@@ -13,6 +13,7 @@ use Rattle.b67_templates.specs.Emitting.{Emitted}
 use Rattle.b67_templates.specs.Fragments.{Has}
 use Rattle.b67_emitter.specs.Values.{HasReference, ReferenceEmitted, ValueEmitted, alone, element, place_syllables}
 use Rattle.b67_emitter.proofs.Composing.{then, weaker}
+use Rattle.b67_emitter.proofs.Appends.{same_level}
 use Rattle.b67_emit_stmt.specs.declared.draft.Draft.{Draft}
 use Rattle.b67_emit_stmt.specs.declared.draft.Known.{Known}
 use Rattle.b67_emit_stmt.specs.Drafts.{HasFew, IsReady, draft_noted}
@@ -20,7 +21,7 @@ use Rattle.b67_emit_stmt.specs.Emits.{EmitsStmt}
 use Rattle.b67_emit_stmt.specs.Fits.{EmittedExprFits, StoreFits}
 use Rattle.b67_emit_stmt.specs.Places.{Later, Place, StmtAt, StoredAt, context_in}
 use Rattle.b67_emit_stmt.proofs.Arms.{Stands}
-use Rattle.b67_emit_stmt.proofs.Drafts.{emits_weaker, level_same, piece}
+use Rattle.b67_emit_stmt.proofs.Drafts.{emits_weaker, piece}
 use Rattle.b67_emit_stmt.proofs.Matched.{emits_as, ready_as}
 use Rattle.b67_emit_stmt.proofs.Parts.{assign_part, plain_at, value_at}
 
@@ -48,14 +49,14 @@ pub store_part : (s : Known) (sc : Place) (later : Later) (v : PVariable) (e : P
     Emitted d x (λ qs. Has qs (level_set d) (size d.operators) (ops.Plain kinds.Stod) (size x.operators)) → StoreFits sc s (level_set a) v e →
     Emitted a x (λ qs. StoredAt sc later qs (level_set a) v e (size a.operators) (size x.operators))
 store_part s sc later (tree.subscripted n tree.none) e a b d x h same k same' l fit =
-    let q = level_same a b same in
+    let q = same_level a b same in
     assign_part sc later (level_set a) fit.0 n e a b d x (h.alone sc.scopes (context_in sc later (level_set a)) fit.0 n refl fit.1) (value_at s b d (level_set a) sc later fit.0 e q k fit.2)
-    (plain_at kinds.Stod (level_set a) (level_same b d same' ∙ q) l)
+    (plain_at kinds.Stod (level_set a) (same_level b d same' ∙ q) l)
 store_part s sc later (tree.subscripted n (tree.more i is)) e a b d x h same k same' l fit =
-    let q = level_same a b same in
+    let q = same_level a b same in
     let through = h.element sc.scopes (context_in sc later (level_set a)) n fit.0 (tree.more i is) refl (fit.1, fit.2) in
     weaker (λ qs. StoredAt sc later qs (level_set a) (tree.subscripted n (tree.more i is)) e (size a.operators) (size x.operators))
-    (then (then through (value_at s b d (level_set a) sc later fit.0.kind e q k fit.3)) (plain_at kinds.Stod (level_set a) (level_same b d same' ∙ q) l))
+    (then (then through (value_at s b d (level_set a) sc later fit.0.kind e q k fit.3)) (plain_at kinds.Stod (level_set a) (same_level b d same' ∙ q) l))
     (λ qs p. (fit.0, p.0.0.0, p.0.0.1, size b.operators, size d.operators, p.0.0.2, p.0.0.3, p.0.0.4, p.0.1, p.1))
 
 stored : (sc : Place) (later : Later) (qs : List Placed) (level : ℕ) (v : PVariable) (e : PExpr) (f t u : ℕ) → StoredAt sc later qs level v e f t →

@@ -16,6 +16,7 @@ use Rattle.b67_ops.specs.declared.intrinsic.Intrinsic.TheVariants.{Select}
 use Rattle.b67_segment.specs.declared.TheConstants.{MOST_SEGMENT_SYLLABLES}
 use Rattle.b67_segment.specs.Operators.{Placed, size}
 use Rattle.b67_segment.specs.Building.{Built, level_set}
+use Rattle.b67_segment.proofs.Cited.{set_after}
 use Rattle.b67_templates.specs.Fragments.{Has, BranchAt, IntrinsicAt, IsWholeNumber, NumberAt, two_bytes}
 use Rattle.b67_templates.specs.Code.{stmts_count}
 use Rattle.b67_emit_stmt.specs.Lengths.{expr_syllables, stmt_syllables, stmts_syllables}
@@ -23,18 +24,19 @@ use Rattle.b67_templates.specs.Emitting.{AreExits, Emitted, EmittedWithExits}
 use Rattle.b67_emit_stmt.specs.Fits.{EmittedStmtFits, EmittedStmtsFit}
 use Rattle.b67_emitter.specs.Aiming.{Aimed}
 use Rattle.b67_emitter.proofs.Composing.{then, weaker}
+use Rattle.b67_emitter.proofs.Appends.{same_level}
 use Rattle.b67_emit_stmt.specs.declared.draft.Draft.{Draft}
 use Rattle.b67_emit_stmt.specs.Drafts.{Emits, HasFew, DraftIsAt, IsReady, DraftNoted, draft_noted}
 use Rattle.b67_emit_stmt.specs.Emits.{EmitsStmt, HasFit}
 use Rattle.b67_emit_stmt.specs.Cases.{EntriesAt, SelectAt}
 use Rattle.b67_emit_stmt.proofs.Arms.{Stands}
-use Rattle.b67_emit_stmt.proofs.Cases.{Midcase, entries_more, entries_size, midcase-first, midcase-last, midcase-more}
-use Rattle.b67_emit_stmt.proofs.Drafts.{emits_then, emits_weaker, level_same}
+use Rattle.b67_emit_stmt.proofs.Cases.{Midcase, entries_more, entries_size, midcase_first, midcase_last, midcase_more}
+use Rattle.b67_emit_stmt.proofs.Drafts.{emits_then, emits_weaker}
 use Rattle.b67_emit_stmt.proofs.Lists.{around, front_more}
 use Rattle.b67_emit_stmt.proofs.Levels.{at_same}
 use Rattle.b67_emit_stmt.proofs.Listed.{next_fits, next_syllables}
 use Rattle.b67_emit_stmt.proofs.Matched.{fit_at, ready_less, set_behind}
-use Rattle.b67_emit_stmt.proofs.Parts.{leveled, set_same}
+use Rattle.b67_emit_stmt.proofs.Parts.{leveled}
 use Rattle.b67_emit_stmt.proofs.Ready.{branch_piece, stmt_piece}
 
 -- ---- how many
@@ -100,7 +102,7 @@ pub cases_begun : (s : Known) (sc : Place) (level many : ℕ) (xs : List Stmt) (
 cases_begun s sc level many xs a t is few es fs h =
     let M : ℕ → Type 0 = λ n. Midcase s sc level [] n a t t in
     let all : many ≡ length xs - 0 = omega (arith, is) in
-    subst M all (midcase-first s sc level many a t few es fs h)
+    subst M all (midcase_first s sc level many a t few es fs h)
 
 -- all are done
 pub cases_ended : (s : Known) (sc : Place) (level : ℕ) (xs : List Stmt) (i : ℕ) (a t b : Draft) → take i xs ≡ xs → length xs ≤ i → Midcase s sc level (take i xs) (length xs - i) a t b →
@@ -110,7 +112,7 @@ cases_ended s sc level xs i a t b all over m =
     let L : List Stmt → Type 0 = λ l. Midcase s sc level l (length xs - i) a t b in
     let M : ℕ → Type 0 = λ n. Midcase s sc level xs n a t b in
     let last = subst M none (subst L all m) in
-    midcase-last s sc level xs a t b (stmts_syllables s (stmts xs)) last (omega (arith, last.short, last.pending))
+    midcase_last s sc level xs a t b (stmts_syllables s (stmts xs)) last (omega (arith, last.short, last.pending))
 
 module _ (s : Known) (sc : Place) (level : ℕ) (xs : List Stmt) (i : ℕ) (x : Stmt) (lo : i < length xs) (is : x ≡ get_or xs i x) (a t b : Draft) (entry : ℕ)
     (at : entry ≡ size a.out.operators + 3 * i) (m : Midcase s sc level (take i xs) (length xs - i) a t b) where
@@ -146,7 +148,7 @@ module _ (s : Known) (sc : Place) (level : ℕ) (xs : List Stmt) (i : ℕ) (x : 
       let split : length xs ≡ length (take i xs) + (1 + length (drop (i + 1) xs)) =
       omega (arith, ap (λ (l : List Stmt). length l) (around xs i x lo is), length-append (take i xs) (x ∷ drop (i + 1) xs)) in
       record {
-        set = set_same b.out d.out aimed.level (set_same a.out b.out m.level_is r.set);
+        set = set_after b.out d.out aimed.level (set_after a.out b.out m.level_is r.set);
         near = r.near;
         inner = r.inner;
         many = r.many;
@@ -156,7 +158,7 @@ module _ (s : Known) (sc : Place) (level : ℕ) (xs : List Stmt) (i : ℕ) (x : 
       }
 
   next_level : (d : Draft) → level_set a.out ≡ level → Aimed (entry ∷ []) b.out d.out → level_set d.out ≡ level
-  next_level d q aimed = level_same b.out d.out aimed.level ∙ level_same a.out b.out m.level_is ∙ q
+  next_level d q aimed = same_level b.out d.out aimed.level ∙ same_level a.out b.out m.level_is ∙ q
 
   -- what the next statement needs
   pub stmt_needs : (d : Draft) (n : ℕ) → Aimed (entry ∷ []) b.out d.out → draft_noted d ≡ draft_noted b → stmts_syllables s (stmts xs) ≤ n → IsReady s a n → level_set a.out ≡ level →
@@ -179,10 +181,10 @@ module _ (s : Known) (sc : Place) (level : ℕ) (xs : List Stmt) (i : ℕ) (x : 
       EmittedWithExits e.out f.out e.exits.items f.exits.items (λ qs target. BranchAt qs (level_set e.out) Brun (size e.out.operators) target (size f.out.operators)) →
       size f.out.operators ≡ size e.out.operators + 3 → Midcase s sc level (take (i + 1) xs) (length xs - (i + 1)) a t f
   cases_more d e f q aimed es fs fit k fs' h wide =
-      let there : level_set d.out ≡ level = level_same b.out d.out aimed.level ∙ level_same a.out b.out m.level_is ∙ q in
+      let there : level_set d.out ≡ level = same_level b.out d.out aimed.level ∙ same_level a.out b.out m.level_is ∙ q in
       let part = stmt_piece s sc (stmt x) d e level there k fit in
-      let behind : level_set e.out ≡ level = level_same d.out e.out part.code.level ∙ there in
+      let behind : level_set e.out ≡ level = same_level d.out e.out part.code.level ∙ there in
       let M : List Stmt → Type 0 = λ l. Midcase s sc level l (length xs - (i + 1)) a t f in
       subst M (sym (front_more xs i x lo is))
-      (midcase-more s sc level (take i xs) (length xs - (i + 1)) a t b d e f x entry (stmt_syllables s (stmt x) + 3) left here aimed es fs
+      (midcase_more s sc level (take i xs) (length xs - (i + 1)) a t b d e f x entry (stmt_syllables s (stmt x) + 3) left here aimed es fs
       (emits_then part (branch_piece sc Brun e f level behind fs' part.few h wide)) (omega arith))

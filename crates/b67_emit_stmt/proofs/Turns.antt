@@ -19,12 +19,13 @@ use Rattle.b67_emit_stmt.specs.Fits.{AssignFits, EmittedExprFits, ReadFits, Emit
 use Rattle.b67_templates.specs.Fragments.{Has, AllAt, BranchAt, TurnAt}
 use Rattle.b67_emitter.specs.Aiming.{Aimed}
 use Rattle.b67_emitter.specs.Values.{ValueEmitted}
+use Rattle.b67_emitter.proofs.Appends.{same_level}
 use Rattle.b67_emit_stmt.specs.declared.draft.Draft.{Draft}
 use Rattle.b67_emit_stmt.specs.Drafts.{Emits, HasFew}
 use Rattle.b67_emit_stmt.specs.Emits.{EmitsBody, EmitsStmt}
 use Rattle.b67_emit_stmt.proofs.Aims.{hole_as}
 use Rattle.b67_emit_stmt.proofs.Arms.{for_arm, thru_arm}
-use Rattle.b67_emit_stmt.proofs.Drafts.{emits_then, hole_there, level_after, level_same, piece}
+use Rattle.b67_emit_stmt.proofs.Drafts.{emits_then, hole_there, level_after, piece}
 use Rattle.b67_emit_stmt.proofs.Matched as matched
 use Rattle.b67_emit_stmt.proofs.Parts.{plain_at}
 use Rattle.b67_emit_stmt.proofs.Ready.{all_piece, body_piece, turn_piece, value_piece}
@@ -50,9 +51,9 @@ module _ (s : Known) (p : PExpr) (x : PStmt) (a n : Draft) (b' d' e' f' o' : Bui
       let e : Draft = record a { out = e' } in
       let f : Draft = record a { out = f' } in
       let o : Draft = record n { out = o' } in
-      let q = level_same b.out d.out tests_level ∙ level_same a.out b.out value_level in
-      let r = level_same d.out e.out branch_level ∙ q in
-      let u = level_same e.out f.out less_level ∙ r in
+      let q = same_level b.out d.out tests_level ∙ same_level a.out b.out value_level in
+      let r = same_level d.out e.out branch_level ∙ q in
+      let u = same_level e.out f.out less_level ∙ r in
       let v = value_piece s a b level sc types.Number p refl refl refl few value value_short number in
       let some : HasFew e = omega (arith, v.few, tests_wide, branch_wide) in
       let last = all_piece 2 (kinds.One ∷ kinds.Subt ∷ []) e f level r refl refl some less (omega (arith, less_wide)) in
@@ -71,10 +72,10 @@ module _ (s : Known) (p : PExpr) (x : PStmt) (a n : Draft) (b' d' e' f' o' : Bui
       let o : Draft = record n { out = o' } in
       let j : Draft = record n { out = j' } in
       let k : Draft = record n { out = k' } in
-      let q = level_same a.out b.out value_level in
-      let r = level_same b.out d.out tests_level ∙ q in
-      let u = level_same d.out e.out branch_level ∙ r in
-      let w = level_same e.out f.out less_level ∙ u in
+      let q = same_level a.out b.out value_level in
+      let r = same_level b.out d.out tests_level ∙ q in
+      let u = same_level d.out e.out branch_level ∙ r in
+      let w = same_level e.out f.out less_level ∙ u in
       let v = value_piece s a b level sc types.Number p refl refl refl few value value_short fit.0 in
       let test = all_piece 3 (kinds.Dupl ∷ kinds.One ∷ kinds.Less ∷ []) b d level q refl refl v.few tests (omega (arith, tests_wide)) in
       let some : HasFew e = omega (arith, test.few, branch_wide) in
@@ -82,7 +83,7 @@ module _ (s : Known) (p : PExpr) (x : PStmt) (a n : Draft) (b' d' e' f' o' : Bui
       let part = body_piece s sc x f n level w code fit.1 in
       let z = level_after part ∙ w in
       let round = turn_piece sc b n o start level start_is z refl refl part.few turn turn_wide in
-      let there : level_set j.out ≡ level = level_same o.out j.out aimed.level ∙ level_same n.out o.out turn_level ∙ z in
+      let there : level_set j.out ≡ level = same_level o.out j.out aimed.level ∙ same_level n.out o.out turn_level ∙ z in
       let lots : HasFew j = omega (arith, round.few, aimed.place) in
       let last = piece {n = 1} {d = j} {e = k} refl refl lots (λ later. plain_at kinds.Dlet level there h) (omega (arith, wide)) in
       thru_arm sc level s p x a b d e f n o j k (over ∷ []) v test (hole_as Brtr d.out e.out level over r over_is branch) (omega (arith, branch_wide)) refl refl minus part round aimed refl refl last
@@ -111,8 +112,8 @@ for_emitted s v first p l x a e f b' d' n' o' start few assign assign_level assi
     let d : Draft = record a { out = d' } in
     let n : Draft = record f { out = n' } in
     let o : Draft = record f { out = o' } in
-    let q = level_same a.out b.out assign_level in
-    let r = level_same b.out d.out difference_level ∙ q in
+    let q = same_level a.out b.out assign_level in
+    let r = same_level b.out d.out difference_level ∙ q in
     let begin = matched.assigned s sc level v first a b refl refl refl few assign assign_short (types.Number, fit.0.1, fit.1) in
     let test = matched.compared s sc level v l b d q refl refl begin.few difference difference_short fit.0.0 fit.3 in
     let past = matched.stepped s sc level p d e r step fit.2 in
@@ -120,4 +121,4 @@ for_emitted s v first p l x a e f b' d' n' o' start few assign assign_level assi
     let u = level_after (emits_then past part) ∙ r in
     let next = matched.advanced s sc level v p f n u refl refl part.few advance advance_short fit.0 fit.2 in
     for_arm sc level s v first p l x a b d e f n o begin test past part next
-    (turn_piece sc b n o start level start_is (level_same f.out n.out advance_level ∙ u) refl refl next.few h wide)
+    (turn_piece sc b n o start level start_is (same_level f.out n.out advance_level ∙ u) refl refl next.few h wide)

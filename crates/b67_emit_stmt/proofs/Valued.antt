@@ -10,6 +10,7 @@ use Rattle.algol_tree.specs.Types.{taken_by}
 use Rattle.algol_tree.specs.Blocks.{block_numbered}
 use Rattle.algol_tree.specs.Cells.{first_spot}
 use Rattle.algol_tree.specs.Scopes.{Scopes, use_of}
+use Rattle.algol_tree.proofs.Trees.{formal_no_procedure, variable_no_procedure}
 use Rattle.algol_meaning.specs.Settle.{block_of_sort, sorts_of}
 use Rattle.algol_meaning.specs.Statements.{alone}
 use Rattle.b67_ops.specs.declared.TheConstants.{MOST_LEVEL}
@@ -23,7 +24,7 @@ use Rattle.b67_emit_stmt.specs.Actuals.{AreInner, HaveValues, cells_in_block}
 use Rattle.b67_emit_stmt.specs.Bodies.{AreActuals}
 use Rattle.b67_emit_stmt.specs.Fits.{EmittedStmtFits, EmittedStmtsFit, InsideFits}
 use Rattle.b67_emit_stmt.specs.Places.{Place}
-use Rattle.b67_emit_stmt.proofs.Celled.{variable_no_procedure, formal_no_procedure, celled_inside}
+use Rattle.b67_emit_stmt.proofs.Celled.{celled_inside}
 
 module _ (sc : Scopes) (told : Told) (inner : AreInner told) (level block : ℕ) where
   abbrev Have : List Actual → Type 0

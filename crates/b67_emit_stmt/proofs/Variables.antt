@@ -11,18 +11,16 @@ use Rattle.algol_tree.specs.declared.tree.Decl.TheVariants as shapes
 use Rattle.algol_tree.specs.declared.tree.Kind.{Kind}
 use Rattle.algol_tree.specs.declared.tree.Named.{Named}
 use Rattle.algol_tree.specs.declared.tree.Heading.{Heading}
-use Rattle.algol_tree.specs.Image.{decl, decls, stmt}
+use Rattle.algol_tree.specs.Image.{decl, decls}
 use Rattle.algol_tree.specs.Plain as tree
 use Rattle.algol_tree.specs.Plain.{PDecl, PDecls}
+use Rattle.algol_tree.proofs.Images.{procedure_is, simple_is}
 use Rattle.b67_templates.specs.Cells.{Simple, value, of_kind, procedures, variables}
 
 pub declared : (kind : Kind) (ns : List Named) (ds : PDecls) → length (variables (tree.decls (tree.simple kind ns) ds)) ≡ length ns + length (variables ds)
 declared kind ns ds =
     let one : Named → Simple = λ n. record { name = n.name; wanted = value kind } in
     omega (arith, length-append (of_kind kind ns) (variables ds), length-map ns one)
-
-simple_is : (kind : Kind) (ns : List Named) → decl (shapes.Simple kind ns) ≡ tree.simple kind ns
-simple_is kind ns = search (rules, the_lemmas)
 
 -- a declaration of variables, and those after it
 pub variables_more : (d : Decl) (kind : Kind) (ns : List Named) (ds : List Decl) → d ≡ shapes.Simple kind ns →
@@ -49,9 +47,6 @@ variables_same d ds other =
     ∙ no_more (out-Decl d) (decls ds) (λ kind ns e. other kind ns (sym (roll-out-Decl d) ∙ e))
 
 -- ---- procedures
-
-procedure_is : (h : Heading) (s : Box Stmt Global) → decl (shapes.Procedure h s) ≡ tree.procedure h (stmt s.value)
-procedure_is h s = search (rules, the_lemmas)
 
 -- a declaration of a procedure, and those after it
 pub procedures_more : (d : Decl) (h : Heading) (s : Box Stmt Global) (ds : List Decl) → d ≡ shapes.Procedure h s → procedures (decls (d ∷ ds)) ≡ h.name ∷ procedures (decls ds)

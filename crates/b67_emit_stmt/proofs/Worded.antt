@@ -1,9 +1,6 @@
 -- The control words of actuals, one after another.
-use Rattle.std.proofs.Common.{◌≡◌, ℕ, ◌+◌, ◌≤◌, ◌<◌, Bool, List, [], ◌∷◌, length, drop, get_or, refl, sym, ap, ◌∙◌, subst, arith}
+use Rattle.std.proofs.Common.{◌≡◌, ℕ, ◌+◌, Bool, List, [], ◌∷◌, drop, refl, sym, ap, ◌∙◌, subst}
 use Rattle.std.specs.Borrow.{Bor}
-use Rattle.std.specs.List.{All}
-use Rattle.std.proofs.Math.ListN.{drop_of_length-le}
-use Rattle.std.proofs.lemmas.List.Elements.{All-get_or}
 use Rattle.algol_tree.specs.declared.tree.Expr.{Expr}
 use Rattle.algol_tree.specs.Image.{expr}
 use Rattle.b67_segment.specs.Operators.{size}
@@ -15,12 +12,7 @@ use Rattle.b67_templates.specs.Fragments.{ControlsAt, routine_at}
 use Rattle.b67_emitter.proofs.Composing.{then, weaker}
 use Rattle.b67_emit_stmt.specs.declared.draft.Known.{Known}
 use Rattle.b67_emit_stmt.specs.Actuals.{exprs_of, images}
-use Rattle.b67_emit_stmt.specs.Bodies.{WordsEmitted}
-use Rattle.b67_emit_stmt.proofs.Coded.{as_many, behind, left_as}
-use Rattle.b67_emit_stmt.proofs.Parts.{emitted_none}
-
-pub all_at : (P : ℕ → Type 0) (xs : List ℕ) (i x : ℕ) → All P xs → i < length xs → x ≡ get_or xs i 0 → P x
-all_at P xs i x h lo is = subst P (sym is) (All-get_or P xs i 0 lo h)
+use Rattle.b67_emit_stmt.proofs.Coded.{behind, left_as}
 
 module _ (s : Known) (level : ℕ) (xs : List (Bor Expr)) (ats : List ℕ) where
   -- from the first builder to the second control words were appended that, with those from a number on, are all
@@ -29,13 +21,6 @@ module _ (s : Known) (level : ℕ) (xs : List (Bor Expr)) (ats : List ℕ) where
       (own : List Actual) → exprs_of own ≡ images xs →
       Emitted a b (λ qs. (t : ℕ) → ControlsAt qs level (routine_controls s.segment level (drop i own) (drop i ats)) (size b.operators) t →
       ControlsAt qs level (routine_controls s.segment level own ats) (size a.operators) t)
-
-  pub words_begun : (a : Built) → WordsLeft 0 a a
-  words_begun a = λ own same.
-      emitted_none a
-      (λ qs. (t : ℕ) → ControlsAt qs level (routine_controls s.segment level (drop 0 own) (drop 0 ats)) (size a.operators) t →
-      ControlsAt qs level (routine_controls s.segment level own ats) (size a.operators) t)
-      (λ qs t k. k)
 
   pub words_more : (i : ℕ) (x : Bor Expr) (rest : List (Bor Expr)) (at : ℕ) (later : List ℕ) → drop i xs ≡ x ∷ rest → drop i ats ≡ at ∷ later → (names : Bool) → names ≡ has_place (expr x.now) →
       (a b d : Built) → level_set b ≡ level → WordsLeft i a b →
@@ -62,9 +47,3 @@ module _ (s : Known) (level : ℕ) (xs : List (Bor Expr)) (ats : List ℕ) where
           subst (λ (l : List ℕ). C os l (size d.operators)) (behind ats i at later ats_are) (subst (λ (l : List Actual). C l (drop (i + 1) ats) (size d.operators)) (behind own i o os left) k) in
           let both : C (o ∷ os) (at ∷ later) (size b.operators) = (p.1.0, p.1.1, p.1.2, subst (C os later) (sym p.1.3) after) in
           p.0 t (subst (λ (l : List Actual). C l (drop i ats) (size b.operators)) (sym left) (subst (λ (l : List ℕ). C (o ∷ os) l (size b.operators)) (sym ats_are) both)))
-
-  pub words_ended : (i : ℕ) (a b : Built) → length xs ≤ i → WordsLeft i a b → WordsEmitted s level a b (images xs) ats
-  words_ended i a b all h = λ own same.
-      let none : drop i own ≡ [] = drop_of_length-le own (omega (arith, as_many own xs same, all)) in
-      weaker (λ qs. ControlsAt qs level (routine_controls s.segment level own ats) (size a.operators) (size b.operators)) (h own same)
-      (λ qs p. p (size b.operators) (subst (λ (l : List Actual). ControlsAt qs level (routine_controls s.segment level l (drop i ats)) (size b.operators) (size b.operators)) (sym none) refl))

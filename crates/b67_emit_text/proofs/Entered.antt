@@ -24,9 +24,10 @@ use Rattle.b67_templates.specs.Labels.{labels_in}
 use Rattle.b67_emit_stmt.specs.declared.draft.Known.{Known}
 use Rattle.b67_emit_stmt.specs.Fits.{EmittedStmtFits, EmittedStmtsFit}
 use Rattle.b67_emit_stmt.specs.Places.{Place, inside}
-use Rattle.b67_emit_stmt.proofs.Notes.{all_both}
 use Rattle.b67_emit_stmt.proofs.Gathered.{if_then_as}
 use Rattle.b67_emit_stmt.proofs.Shapes.{block_as, if_else_as}
+use Rattle.algol_scope.proofs.Bodies.{labels_is}
+use Rattle.b67_list.proofs.Lists.{each_both}
 use Rattle.b67_emit_text.specs.declared.entries.Declared.{Declared}
 use Rattle.b67_emit_text.specs.Entries.{AreLow, AllLow, DeclaredLabel, IsLeveled, entries_in_stmt, entries_in_stmts, entries_of, entry_of, own_entries}
 
@@ -125,14 +126,8 @@ pushed_there old mid d h = ap (map entry_of) h ∙ map-append entry_of old (d �
 
 -- ---- declarations
 
-labels_are : (d : Decl) (ns : List Named) → d ≡ declarations.Labels ns → decl d ≡ tree.labels ns
-labels_are d ns is = ap decl is ∙ own ns
-  where
-    own : (ns : List Named) → decl (declarations.Labels ns) ≡ tree.labels ns
-    own ns = search (rules, the_lemmas)
-
 pub labels_more : (d : Decl) (left rest : List Decl) (ns : List Named) → left ≡ d ∷ rest → d ≡ declarations.Labels ns → labels_in (decls left) ≡ ns ++ labels_in (decls rest)
-labels_more d left rest ns is labels = ap (λ (l : List Decl). labels_in (decls l)) is ∙ ap (λ (e : PDecl). labels_in (tree.decls e (decls rest))) (labels_are d ns labels)
+labels_more d left rest ns is labels = ap (λ (l : List Decl). labels_in (decls l)) is ∙ ap (λ (e : PDecl). labels_in (tree.decls e (decls rest))) (labels_is d ns labels)
 
 none_more : (x : Decl-F Decl Stmt Body) (ds : PDecls) → ((ns : List Named) → roll-Decl x ≡ declarations.Labels ns → ⊥) → labels_in (tree.decls (decl (roll-Decl x)) ds) ≡ labels_in ds
 none_more (Decl-F.Simple kind ns) ds other = search (rules, the_lemmas)
@@ -198,11 +193,11 @@ mutual
   stmt_leveled level (tree.go_to n) outer most low = tt
   stmt_leveled level (tree.block (tree.body spot tree.no_decls ss)) outer most low = stmts_leveled level ss outer most low
   stmt_leveled level (tree.block (tree.body spot (tree.decls d ds) ss)) outer most low =
-      all_both IsLeveled (own_entries (level + 1) ss (labels_in (tree.decls d ds))) (entries_in_stmts (level + 1) ss)
+      each_both IsLeveled (own_entries (level + 1) ss (labels_in (tree.decls d ds))) (entries_in_stmts (level + 1) ss)
       (own_leveled (level + 1) ss (labels_in (tree.decls d ds)) (omega (arith, outer)) low.0) (stmts_leveled (level + 1) ss (omega (arith, outer)) low.0 low.1)
   stmt_leveled level (tree.if_then c x) outer most low = stmt_leveled level x outer most low
   stmt_leveled level (tree.if_else c x y) outer most low =
-      all_both IsLeveled (entries_in_stmt level x) (entries_in_stmt level y) (stmt_leveled level x outer most low.0) (stmt_leveled level y outer most low.1)
+      each_both IsLeveled (entries_in_stmt level x) (entries_in_stmt level y) (stmt_leveled level x outer most low.0) (stmt_leveled level y outer most low.1)
   stmt_leveled level (tree.while c b) outer most low = stmt_leveled level b outer most low
   stmt_leveled level (tree.until b c) outer most low = stmt_leveled level b outer most low
   stmt_leveled level (tree.for v a t l b) outer most low = stmt_leveled level b outer most low
@@ -215,9 +210,9 @@ mutual
   stmts_leveled : (level : ℕ) (xs : PStmts) → OUTER_LEVEL ≤ level → level ≤ MOST_LEVEL → AllLow level xs → AllByRecursion IsLeveled (entries_in_stmts level xs)
   stmts_leveled level tree.no_stmts outer most low = tt
   stmts_leveled level (tree.stmts x xs) outer most low =
-      all_both IsLeveled (entries_in_stmt level x) (entries_in_stmts level xs) (stmt_leveled level x outer most low.0) (stmts_leveled level xs outer most low.1)
+      each_both IsLeveled (entries_in_stmt level x) (entries_in_stmts level xs) (stmt_leveled level x outer most low.0) (stmts_leveled level xs outer most low.1)
 
 -- the levels of all entries of a text
 pub entries_leveled : (level : ℕ) (ds : PDecls) (ss : PStmts) → OUTER_LEVEL ≤ level → level ≤ MOST_LEVEL → AllLow level ss → AllByRecursion IsLeveled (entries_of level ds ss)
 entries_leveled level ds ss outer most low =
-    all_both IsLeveled (own_entries level ss (labels_in ds)) (entries_in_stmts level ss) (own_leveled level ss (labels_in ds) outer most) (stmts_leveled level ss outer most low)
+    each_both IsLeveled (own_entries level ss (labels_in ds)) (entries_in_stmts level ss) (own_leveled level ss (labels_in ds) outer most) (stmts_leveled level ss outer most low)

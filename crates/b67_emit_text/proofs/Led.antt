@@ -4,11 +4,9 @@ use Rattle.std.specs.Borrow.{Bor}
 use Rattle.std.specs.Prelude.{Option, Some, None, option_copied}
 use Rattle.std.specs.declared.boxed.Box.{Box}
 use Rattle.std.specs.declared.alloc.Global.{Global}
-use Rattle.algol_tree.specs.declared.token.Spot.{Spot}
 use Rattle.algol_tree.specs.declared.tree.Named.{Named}
 use Rattle.algol_tree.specs.declared.tree.Stmt.{Stmt}
 use Rattle.algol_tree.specs.declared.tree.Stmt.TheVariants as shapes
-use Rattle.algol_tree.specs.Blocks.{same_spot}
 use Rattle.algol_tree.specs.Image.{stmt, stmts}
 use Rattle.algol_tree.specs.Plain as tree
 use Rattle.algol_tree.specs.Plain.{PStmt}
@@ -17,7 +15,6 @@ use Rattle.algol_meaning.specs.Statements.{is_labelled}
 use Rattle.b67_templates.specs.Labels.{label_before, label_in}
 use Rattle.b67_emit_stmt.specs.declared.draft.Label.{Label}
 use Rattle.b67_emit_stmt.proofs.Shapes.{label_as}
-use Rattle.b67_emit_text.specs.Entries.{label_place_in}
 
 -- the label before a statement, or before that
 module _ (s p : Stmt) (n : Named) (b : Box Stmt Global) (name : List ℕ) (is : s ≡ shapes.Label n b) (same : p ≡ b.value) where
@@ -75,10 +72,3 @@ module _ (left rest : List Stmt) (s : Stmt) (name : List ℕ) (is : left ≡ s �
   -- .. or among the others
   pub label_further : is_some (label_before (stmt s) name) ≡ false → label_in (stmts left) name ≡ label_in (stmts rest) name
   label_further h = split false h
-
-module _ (left rest : List Label) (l : Label) (spot : Spot) (is : left ≡ l ∷ rest) where
-  abbrev place : Bool → Option ℕ
-  place b = if b then Some l.place else label_place_in rest spot
-
-  pub place_here : same_spot l.spot spot ≡ true → label_place_in left spot ≡ Some l.place
-  place_here h = ap (λ (ls : List Label). label_place_in ls spot) is ∙ ap place h

@@ -1,36 +1,24 @@
 -- The labels of a text by their places: each that a block declares and that stands in the block's list is among those that are noted.
-use Rattle.std.proofs.Common.{arith, ◌≡◌, ◌⊎◌, inl, inr, ℕ, zero, suc, ◌+◌, ◌≤◌, Bool, true, false, if◌then◌else◌, List, [], ◌∷◌, ◌++◌, refl, sym, ap, ◌∙◌, subst}
-use Rattle.std.specs.Prelude.{Option, Some, None, ◌==◌, slice_get}
+use Rattle.std.proofs.Common.{arith, ◌≡◌, ◌⊎◌, inl, inr, ℕ, zero, suc, ◌+◌, ◌≤◌, Bool, true, false, if◌then◌else◌, List, [], ◌∷◌, ◌++◌, refl, sym, ap, ◌∙◌}
+use Rattle.std.specs.Prelude.{Option, Some, None, slice_get}
 use Rattle.std.specs.List.{AllByRecursion}
-use Rattle.std.proofs.lemmas.Bool.{and_parts, eqb-true}
-use Rattle.std.proofs.lemmas.Bool.Decides.{nat_tests}
 use Rattle.algol_tree.specs.declared.token.Spot.{Spot}
 use Rattle.algol_tree.specs.declared.tree.Named.{Named}
 use Rattle.algol_tree.specs.Blocks.{same_spot}
 use Rattle.algol_tree.specs.Plain as tree
 use Rattle.algol_tree.specs.Plain.{PStmt, PStmts, PDecls}
 use Rattle.algol_tree.specs.Sorts.{same_name}
+use Rattle.algol_tree.proofs.Spots.{same_spot_is, same_spot_itself}
 use Rattle.algol_meaning.specs.Statements.{is_labelled}
 use Rattle.b67_templates.specs.Labels.{label_before, label_in, labels_in}
 use Rattle.b67_emit_stmt.specs.declared.draft.Label.{Label}
 use Rattle.b67_emit_stmt.specs.Drafts.{spots_of}
 use Rattle.b67_emit_stmt.specs.Labels.{label_spots, label_spots_in}
-use Rattle.b67_emit_stmt.proofs.Notes.{all_both}
+use Rattle.b67_list.proofs.Lists.{each_both}
 use Rattle.b67_emit_text.specs.Entries.{DeclaredLabel, entries_in_stmt, entries_in_stmts, entries_of, own_entries, label_place_in}
 use Rattle.b67_emit_text.specs.Texts.{spot_times}
 
 -- ---- places
-
-pub spot_same : (s t : Spot) → same_spot s t ≡ true → s ≡ t
-spot_same s t h =
-    let parts = and_parts (s.column == t.column) (s.line == t.line) h in
-    ap (λ n. record { line = s.line; column = n }) (eqb-true s.column t.column parts.0) ∙ ap (λ n. record { line = n; column = t.column }) (eqb-true s.line t.line parts.1)
-
-pub spot_self : (s : Spot) → same_spot s s ≡ true
-spot_self s = grind (arith, nat_tests)
-
-some_one : {X : Type 0} (x y : X) → Some x ≡ Some y → x ≡ y
-some_one {X} x y e = cc
 
 -- the place is one of these
 abbrev pub Among : Spot → List Spot → Type 0
@@ -101,7 +89,7 @@ own_found level ss [] = tt
 own_found level ss (n ∷ ns) = (λ label there. list_among ss n.name label there, own_found level ss ns)
 
 both_found : (xs ys : List Spot) (es fs : List DeclaredLabel) → AllByRecursion (Found xs) es → AllByRecursion (Found ys) fs → AllByRecursion (Found (xs ++ ys)) (es ++ fs)
-both_found xs ys es fs h k = all_both (Found (xs ++ ys)) es fs (further xs ys es h) (behind xs ys fs k)
+both_found xs ys es fs h k = each_both (Found (xs ++ ys)) es fs (further xs ys es h) (behind xs ys fs k)
 
 mutual
   stmt_found : (level : ℕ) (s : PStmt) → AllByRecursion (Found (label_spots s)) (entries_in_stmt level s)
@@ -112,7 +100,7 @@ mutual
   stmt_found level (tree.go_to n) = tt
   stmt_found level (tree.block (tree.body spot tree.no_decls ss)) = stmts_found level ss
   stmt_found level (tree.block (tree.body spot (tree.decls d ds) ss)) =
-      all_both (Found (label_spots_in ss)) (own_entries (level + 1) ss (labels_in (tree.decls d ds))) (entries_in_stmts (level + 1) ss)
+      each_both (Found (label_spots_in ss)) (own_entries (level + 1) ss (labels_in (tree.decls d ds))) (entries_in_stmts (level + 1) ss)
       (own_found (level + 1) ss (labels_in (tree.decls d ds))) (stmts_found (level + 1) ss)
   stmt_found level (tree.if_then c x) = stmt_found level x
   stmt_found level (tree.if_else c x y) =
@@ -134,14 +122,7 @@ mutual
 -- those of a text
 pub entries_found : (level : ℕ) (ds : PDecls) (ss : PStmts) → AllByRecursion (Found (label_spots_in ss)) (entries_of level ds ss)
 entries_found level ds ss =
-    all_both (Found (label_spots_in ss)) (own_entries level ss (labels_in ds)) (entries_in_stmts level ss) (own_found level ss (labels_in ds)) (stmts_found level ss)
-
--- what holds of each holds of the one with this number
-pub each_there : {X : Type 0} (P : X → Type 0) (xs : List X) (number : ℕ) (x : X) → AllByRecursion P xs → slice_get xs number ≡ Some x → P x
-each_there {X} P [] zero x all h = absurd (let clash : None ≡ Some x = h in cc)
-each_there {X} P [] (suc n) x all h = absurd (let clash : None ≡ Some x = h in cc)
-each_there {X} P (y ∷ ys) zero x all h = subst P (some_one y x h) all.0
-each_there {X} P (y ∷ ys) (suc n) x all h = each_there P ys n x all.1 h
+    each_both (Found (label_spots_in ss)) (own_entries level ss (labels_in ds)) (entries_in_stmts level ss) (own_found level ss (labels_in ds)) (stmts_found level ss)
 
 -- ---- where they were noted
 
@@ -161,9 +142,9 @@ noted_there (l ∷ ls) spot h = by (same_spot l.spot spot) refl h (noted_there l
     place b = if b then Some l.place else label_place_in ls spot
 
     by : (b : Bool) → same_spot l.spot spot ≡ b → Among spot (spots_of (l ∷ ls)) → (Among spot (spots_of ls) → Noted ls spot) → Noted (l ∷ ls) spot
-    by true q g later = record { label = l; here = spot_same l.spot spot q; place = ap place q; number = zero; there = refl }
+    by true q g later = record { label = l; here = same_spot_is l.spot spot q; place = ap place q; number = zero; there = refl }
     by false q (inl e) later =
-        let self : same_spot l.spot spot ≡ true = ap (λ (s : Spot). same_spot s spot) (sym e) ∙ spot_self spot in
+        let self : same_spot l.spot spot ≡ true = ap (λ (s : Spot). same_spot s spot) (sym e) ∙ same_spot_itself spot in
         absurd (let clash : true ≡ false = sym self ∙ q in cc)
     by false q (inr g) later =
         let more = later g in
@@ -191,13 +172,13 @@ own_all : (ls : List Label) → ((spot : Spot) → spot_times spot (spots_of ls)
 unfolding counted
 own_all [] once = tt
 own_all (x ∷ xs) once = (
-  (ap (λ (b : Bool). if b then Some x.place else label_place_in xs x.spot) (spot_self x.spot), first),
+  (ap (λ (b : Bool). if b then Some x.place else label_place_in xs x.spot) (same_spot_itself x.spot), first),
   all_own (Own xs) (Own (x ∷ xs)) xs other (own_all xs (λ spot. fewer (same_spot x.spot spot) (spot_times spot (spots_of xs)) (once spot))),
 )
   where
     first : 1 ≤ spot_times x.spot (spots_of (x ∷ xs))
     first =
-        let one : spot_times x.spot (spots_of (x ∷ xs)) ≡ 1 + spot_times x.spot (spots_of xs) = ap (λ (b : Bool). (if b then 1 else 0) + spot_times x.spot (spots_of xs)) (spot_self x.spot) in
+        let one : spot_times x.spot (spots_of (x ∷ xs)) ≡ 1 + spot_times x.spot (spots_of xs) = ap (λ (b : Bool). (if b then 1 else 0) + spot_times x.spot (spots_of xs)) (same_spot_itself x.spot) in
         omega (arith, one)
 
     other : (l : Label) → Own xs l → Own (x ∷ xs) l

@@ -1,60 +1,24 @@
 -- The table of a text's labels: how it is appended, kept and aimed.
-use Rattle.std.proofs.Common.{arith, ◌≡◌, ◌≢◌, ℕ, zero, suc, ◌+◌, ◌*◌, ◌<◌, ◌≤◌, eqb, inl, inr, List, [], ◌∷◌, ◌++◌, length, map, drop, refl, sym, ap, ◌∙◌, subst, length-append}
-use Rattle.std.specs.Prelude.{Bool, true, false, nat_eq, nat_lt, Option, Some, None, slice_get}
-use Rattle.std.proofs.lemmas.Bool.{eqb-true, eqb-false, ltb-true, ltb-false, cases_Bool, cond-true, cond-false}
+use Rattle.std.proofs.Common.{arith, ◌≡◌, ◌≢◌, ℕ, zero, suc, ◌+◌, ◌*◌, ◌<◌, ◌≤◌, List, [], ◌∷◌, ◌++◌, length, map, drop, refl, sym, ap, ◌∙◌, subst}
+use Rattle.std.specs.Prelude.{Bool, true, false, nat_eq, nat_lt, Some, None, slice_get}
+use Rattle.std.proofs.lemmas.Bool.{eqb-true, eqb-false, ltb-true, ltb-false}
 use Rattle.std.proofs.lemmas.Option.{slice_get_within}
 use Rattle.b67_ops.specs.declared.Operator.{Operator}
-use Rattle.b67_ops.specs.declared.Operator.TheVariants.{Valc, Namc, Lt8, Lt16, Lt48, Mpcw, Branch, Plain}
+use Rattle.b67_ops.specs.declared.Operator.TheVariants.{Branch}
 use Rattle.b67_ops.specs.declared.BranchKind.TheVariants.{Brun}
-use Rattle.b67_ops.specs.Spelling.{spelling}
-use Rattle.b67_segment.specs.Operators.{Placed, StandsAmong, aimed, aimed_from, size, text, width}
+use Rattle.b67_segment.specs.Operators.{Placed, StandsAmong, aimed_from, size}
 use Rattle.b67_segment.specs.Building.{Built, IsBranchAt}
-use Rattle.b67_segment.proofs.Among.{StandsAmong-aimed, StandsAmong-branch}
+use Rattle.b67_segment.proofs.Among.{StandsAmong_aimed, StandsAmong_branch}
 use Rattle.b67_templates.specs.Emitting.{OperatorsStay}
 use Rattle.b67_templates.specs.Fragments.{Has}
 use Rattle.b67_templates.specs.Labels.{table_place}
 use Rattle.b67_emit_stmt.specs.declared.draft.Label.{Label}
+use Rattle.b67_emitter.proofs.Patching.{length_aimed}
+use Rattle.b67_list.proofs.Numbers.{one_target}
 use Rattle.b67_emit_text.specs.declared.entries.Declared.{Declared}
 use Rattle.b67_emit_text.specs.Entries.{DeclaredLabel, HeadAimed, HeadAt, PendingAt, entry_of, leads}
 
 -- ---- one branch is aimed
-
-aimed-wide : (at level target : ℕ) (op : Operator) → length (spelling at level (aimed target op)) ≡ length (spelling at level op)
-aimed-wide at level target (Valc couple) = refl
-aimed-wide at level target (Namc couple) = refl
-aimed-wide at level target (Lt8 n) = refl
-aimed-wide at level target (Lt16 n) = refl
-aimed-wide at level target (Lt48 n) = refl
-aimed-wide at level target (Mpcw n) = refl
-aimed-wide at level target (Branch kind place) = refl
-aimed-wide at level target (Plain kind) = refl
-
--- code is as long, wherever its branches go
-length-aimed : (from place target : ℕ) (ps : List Placed) → length (text from (aimed_from from place target ps)) ≡ length (text from ps)
-length-aimed from place target [] = refl
-length-aimed from place target (p ∷ ps) =
-    let wide = aimed-wide from p.level target p.operator in
-    let changed : Placed = record { level = p.level; operator = aimed target p.operator } in
-    let next = from + width from p in
-    elim (cases_Bool (eqb from place)) [
-      | inl here ↦
-          ap (λ qs. length (text from qs)) (cond-true (eqb from place) (changed ∷ ps) (p ∷ aimed_from next place target ps) here)
-          ∙ omega (
-            arith,
-            wide,
-            length-append (spelling from p.level (aimed target p.operator)) (text (from + width from changed) ps),
-            length-append (spelling from p.level p.operator) (text next ps),
-            ap (λ n. length (text (from + n) ps)) wide,
-          )
-      | inr other ↦
-          ap (λ qs. length (text from qs)) (cond-false (eqb from place) (changed ∷ ps) (p ∷ aimed_from next place target ps) other)
-          ∙ omega (
-            arith,
-            length-aimed next place target ps,
-            length-append (spelling from p.level p.operator) (text next (aimed_from next place target ps)),
-            length-append (spelling from p.level p.operator) (text next ps),
-          )
-    ]
 
 -- ---- a table is kept
 
@@ -103,7 +67,7 @@ pub record Midway (es : List DeclaredLabel) (number begin : ℕ) (labels : List 
 pending_aside : (ps : List Placed) (branch target from : ℕ) (es : List DeclaredLabel) → branch < from → PendingAt ps from es → PendingAt (aimed_from 0 branch target ps) from es
 pending_aside ps branch target from [] lo h = tt
 pending_aside ps branch target from (e ∷ es) lo h =
-    (StandsAmong-aimed branch target (λ q. omega (arith, lo, q)) h.0, pending_aside ps branch target (from + 3) es (omega (arith, lo)) h.1)
+    (StandsAmong_aimed branch target (λ q. omega (arith, lo, q)) h.0, pending_aside ps branch target (from + 3) es (omega (arith, lo)) h.1)
 
 pub midway_first : (es : List DeclaredLabel) (level begin : ℕ) (labels : List Label) (a b : Built) → HeadAt a.operators level es →
     b ≡ record a { operators = aimed_from 0 0 begin a.operators } → Midway es 0 begin labels a b
@@ -112,9 +76,9 @@ midway_first es level begin labels a b h is =
     subst M (sym is)
     (record {
       level = refl;
-      place = length-aimed 0 0 begin a.operators;
-      others = λ at l next op lo s. StandsAmong-aimed 0 begin (λ q. omega (arith, lo, q)) s;
-      over = λ l s. StandsAmong-branch begin s;
+      place = length_aimed 0 0 begin a.operators;
+      others = λ at l next op lo s. StandsAmong_aimed 0 begin (λ q. omega (arith, lo, q)) s;
+      over = λ l s. StandsAmong_branch begin s;
       done = λ k e target lo there to. absurd (omega (arith, lo));
       pending = pending_aside a.operators 0 begin (table_place 0) es (omega arith) h.1;
     })
@@ -148,9 +112,6 @@ lower k n lo other = le_other (nat_lt k n) refl
 one_entry : (x y : DeclaredLabel) → Some x ≡ Some y → x ≡ y
 one_entry x y e = cc
 
-one_target : (x y : ℕ) → Some x ≡ Some y → x ≡ y
-one_target x y e = cc
-
 module _ (es : List DeclaredLabel) (number begin : ℕ) (labels : List Label) (e : DeclaredLabel) (rest : List DeclaredLabel) (is : drop number es ≡ e ∷ rest) (a b : Built) (m : Midway es number begin labels a b) where
   here : PendingAt b.operators (table_place number) (e ∷ rest)
   here = let P : List DeclaredLabel → Type 0 = λ l. PendingAt b.operators (table_place number) l in subst P is m.pending
@@ -176,10 +137,10 @@ module _ (es : List DeclaredLabel) (number begin : ℕ) (labels : List Label) (e
       let at' : ℕ → Built = λ p. record b { operators = aimed_from 0 p target b.operators } in
       subst M (sym (same ∙ ap at' at)) (record {
         level = m.level;
-        place = length-aimed 0 (table_place number) target b.operators ∙ m.place;
+        place = length_aimed 0 (table_place number) target b.operators ∙ m.place;
         others = λ p l next op lo s.
-            StandsAmong-aimed (table_place number) target (λ q. omega (arith, lo, q, drop_within es number e rest is)) (m.others p l next op lo s);
-        over = λ l s. StandsAmong-aimed (table_place number) target (λ q. omega (arith, q)) (m.over l s);
+            StandsAmong_aimed (table_place number) target (λ q. omega (arith, lo, q, drop_within es number e rest is)) (m.others p l next op lo s);
+        over = λ l s. StandsAmong_aimed (table_place number) target (λ q. omega (arith, q)) (m.over l s);
         done = done;
         pending = left (at' (table_place number)) (pending_aside b.operators (table_place number) target (table_place number + 3) rest (omega arith) here.1);
       })
@@ -197,10 +158,10 @@ module _ (es : List DeclaredLabel) (number begin : ℕ) (labels : List Label) (e
               let x_is : e ≡ x = one_entry e x (sym there ∙ ap (λ (n : ℕ). slice_get es n) (sym k_is) ∙ found) in
               let to_is : target ≡ to = one_target target to (sym leads_to ∙ ap (leads labels) x_is ∙ leads_to') in
               let H : ℕ → DeclaredLabel → ℕ → Type 0 = λ n y t. Has (aimed_from 0 (table_place number) target b.operators) y.level (table_place n) (Branch Brun t) (table_place n + 3) in
-              subst (λ n. H n x to) (sym k_is) (subst (λ y. H number y to) x_is (subst (H number e) to_is (StandsAmong-branch target here.0)))
+              subst (λ n. H n x to) (sym k_is) (subst (λ y. H number y to) x_is (subst (H number e) to_is (StandsAmong_branch target here.0)))
           by false q =
               let other : k ≢ number = eqb-false k number q in
-              StandsAmong-aimed (table_place number) target (λ p. other (omega (arith, p))) (m.done k x to (lower k number lo other) found leads_to')
+              StandsAmong_aimed (table_place number) target (λ p. other (omega (arith, p))) (m.done k x to (lower k number lo other) found leads_to')
 
   -- it leads nowhere
   pub midway_same : leads labels e ≡ None → Midway es (suc number) begin labels a b
@@ -246,8 +207,3 @@ drop_entries (suc i) (x ∷ xs) = drop_entries i xs
 
 pub next_entry : (i : ℕ) (xs : List Declared) (x : Declared) (rest : List Declared) → drop i xs ≡ x ∷ rest → drop i (map entry_of xs) ≡ entry_of x ∷ map entry_of rest
 next_entry i xs x rest is = drop_entries i xs ∙ ap (λ (l : List Declared). map entry_of l) is
-
--- what is nothing else is none
-pub is_none : (o : Option ℕ) → ((x : ℕ) → o ≡ Some x → ⊥) → o ≡ None
-is_none None other = refl
-is_none (Some x) other = absurd (other x refl)

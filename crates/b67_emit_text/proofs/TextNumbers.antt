@@ -8,6 +8,7 @@ use Rattle.algol_tree.specs.Blocks.{of_statement, same_spot, number_at}
 use Rattle.algol_tree.specs.Plain as tree
 use Rattle.algol_tree.specs.Plain.{PStmt, PStmts, PDecls, PBody}
 use Rattle.algol_tree.specs.Scopes.{Scopes}
+use Rattle.algol_tree.proofs.Spots.{same_spot_is, same_spot_itself}
 use Rattle.b67_emitter.specs.declared.names.Names.{Names}
 use Rattle.algol_places.specs.Numbers.{number_from}
 use Rattle.algol_paths.specs.Segments.{segment_of}
@@ -20,9 +21,8 @@ use Rattle.b67_emit_stmt.specs.Fits.{AreNumbered, InsideFits, IsNumbered, Emitte
 use Rattle.b67_emit_stmt.specs.Places.{Place}
 use Rattle.b67_emit_text.specs.Programs.{AreDue, block_of_text}
 use Rattle.b67_emit_text.specs.Texts.{Text, HaveLevelsBody, outer_text, places_of, texts, texts_of, texts_in_body, texts_in_decl, texts_in_decls, texts_in_stmts}
-use Rattle.b67_emit_text.proofs.Spots.{spot_same, spot_self}
 use Rattle.b67_emit_text.proofs.TextStanding.{place_of}
-use Rattle.b67_emit_text.proofs.TextTrees.{Each, Fine, Within, each_at, each_from, each_left, each_right, hold_body, levels_all, levels_decls, within_procedure}
+use Rattle.b67_emit_text.proofs.TextTrees.{Each, Fine, Within, each_at, each_from, each_left, each_right, hold_body, levels_all, levels_decls, within_procedure, same_text}
 
 -- ---- what fits, and the numbers of what it declares
 
@@ -96,9 +96,6 @@ record First (from : ℕ) (ts : List Text) (spot : Spot) : Type 0 where
   there : slice_get ts place ≡ Some text
   same : text.spot ≡ spot
 
-same_some : (x y : Text) → Some x ≡ Some y → x ≡ y
-same_some x y e = cc
-
 first_there : (from : ℕ) (ts : List Text) (k : ℕ) (t : Text) → slice_get ts k ≡ Some t → First from ts t.spot
 first_there from [] zero t e = cc
 first_there from [] (suc k) t e = cc
@@ -111,9 +108,9 @@ first_there from (x ∷ xs) k t e = by (λ i u. first_there (from + 1) xs i t u)
         First from (x ∷ xs) t.spot
     by behind true q k e =
         let own : from ≡ from + 0 = omega arith in
-        record { place = 0; text = x; is = ap number q ∙ ap Some own; there = refl; same = spot_same x.spot t.spot q }
+        record { place = 0; text = x; is = ap number q ∙ ap Some own; there = refl; same = same_spot_is x.spot t.spot q }
     by behind false q zero e =
-        let self : same_spot x.spot t.spot ≡ true = ap (λ (u : Text). same_spot u.spot t.spot) (same_some x t e) ∙ spot_self t.spot in cc
+        let self : same_spot x.spot t.spot ≡ true = ap (λ (u : Text). same_spot u.spot t.spot) (same_text x t e) ∙ same_spot_itself t.spot in cc
     by behind false q (suc k) e =
         let f = behind k e in
         let more : from + 1 + f.place ≡ from + suc f.place = omega arith in

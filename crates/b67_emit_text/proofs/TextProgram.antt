@@ -1,11 +1,10 @@
 -- The segments of a program: that of its outer block, and those of its procedures after it.
-use Rattle.std.proofs.Common.{rules, ◌≡◌, ℕ, zero, suc, ◌+◌, ◌*◌, ◌<◌, ◌≤◌, Option, None, List, [], ◌∷◌, ◌++◌, length, map, take, get_or, sym, ap, ◌∙◌, subst, arith}
+use Rattle.std.proofs.Common.{◌≡◌, ℕ, zero, suc, ◌+◌, ◌*◌, ◌<◌, ◌≤◌, Option, None, List, [], ◌∷◌, ◌++◌, length, map, take, get_or, sym, ap, ◌∙◌, subst, arith}
 use Rattle.std.specs.Prelude.{Some, slice_get}
 use Rattle.std.proofs.lemmas.List.{length-map, take_all, take_more}
 use Rattle.algol_tree.specs.declared.TheConstants.{MOST_BLOCK_CELLS, MOST_PROCEDURES}
 use Rattle.algol_tree.specs.declared.token.Spot.{Spot}
 use Rattle.algol_tree.specs.declared.tree.Body.{Body}
-use Rattle.algol_tree.specs.declared.tree.Body as bodies
 use Rattle.algol_tree.specs.declared.tree.Decl.{Decl}
 use Rattle.algol_tree.specs.declared.tree.Kind.{Kind}
 use Rattle.algol_tree.specs.declared.tree.Stmt.{Stmt}
@@ -13,6 +12,7 @@ use Rattle.algol_tree.specs.Image.{body, decls, stmts}
 use Rattle.algol_tree.specs.Plain as tree
 use Rattle.algol_tree.specs.Plain.{PDecls, PBody}
 use Rattle.algol_tree.specs.Scopes.{Scopes}
+use Rattle.algol_tree.proofs.Images.{body_is}
 use Rattle.algol_paths.specs.Segments.{segment_of}
 use Rattle.b67_emitter.specs.declared.names.Names.{Names}
 use Rattle.b67_ops.specs.declared.TheConstants.{OUTER_LEVEL}
@@ -36,9 +36,6 @@ use Rattle.b67_emit_text.proofs.TextStanding.{AllStand, TextStands, place_of, st
 use Rattle.b67_emit_text.proofs.TextTrees.{Each, Roomy, each_at, each_from, hold_body, outer_roomy, procedure_roomy}
 
 -- ---- the outer block
-
-body_is : (b : Body) → body b ≡ tree.body b.spot (decls b.decls) (stmts b.stmts)
-body_is b = search (rules, bodies.the_lemmas)
 
 module _ (b : Body) where
   pub outer_returned : None ≡ result_index (outer_text (body b)).result (outer_text (body b)).parameters

@@ -17,14 +17,14 @@ use Rattle.b67_segment.specs.declared.code.Segment.{Segment}
 use Rattle.b67_segment.specs.Operators.{Placed, StandsAmong, size, filled, last_level, missing}
 use Rattle.b67_segment.specs.Building.{Built, level_set}
 use Rattle.b67_segment.specs.Syllables.{Spells}
-use Rattle.b67_segment.proofs.Among.{StandsAmong-kept}
+use Rattle.b67_segment.proofs.Among.{StandsAmong_kept}
 use Rattle.b67_segment.proofs.Filling.{noop}
 use Rattle.b67_templates.specs.Cells.{Actual, actuals_in_block}
 use Rattle.b67_templates.specs.Emitting.{Emitted, Leaves}
 use Rattle.b67_templates.specs.Fragments.{FragmentGoes, over, stop}
 use Rattle.b67_templates.specs.Labels.{table_place}
 use Rattle.b67_emitter.specs.Values.{AreNear, meanings}
-use Rattle.b67_emitter.proofs.Exits.{next-behind}
+use Rattle.b67_emitter.proofs.Exits.{next_behind}
 use Rattle.b67_emit_stmt.specs.declared.draft.Draft.{Draft}
 use Rattle.b67_emit_stmt.specs.declared.draft.Known.{Known}
 use Rattle.b67_emit_stmt.specs.declared.draft.Label.{Label}
@@ -41,9 +41,10 @@ use Rattle.b67_emit_stmt.proofs.Levels.{at_after}
 use Rattle.b67_emit_stmt.proofs.Matched.{ready_less}
 use Rattle.b67_emit_stmt.proofs.Notes.{grows_equal, grows_then}
 use Rattle.b67_emit_stmt.proofs.Ready.{ready_after}
+use Rattle.b67_list.proofs.Lists.{each_at}
 use Rattle.b67_emit_text.specs.Codes.{EmitsText, EmitsTextEnd, EmitsWhole, EndingAt, CodeIsMade, TextAt, TextEndAt, WholeAt, segment_syllables, text_end_syllables, text_syllables, zeros_for}
 use Rattle.b67_emit_text.specs.Entries.{DeclaredLabel, EntryAt, HeadAimed, HeadAt, entries_of, leads, place_there}
-use Rattle.b67_emit_text.proofs.Spots.{Among, Found, each_there, entries_found, noted_there}
+use Rattle.b67_emit_text.proofs.Spots.{Among, Found, entries_found, noted_there}
 use Rattle.b67_emit_text.proofs.Tables.{head_kept}
 
 -- ---- a draft of no code yet, at this level
@@ -99,7 +100,7 @@ stands_filled {n} {a} {b} {P} h none later known =
     let L : List ℕ → Type 0 = λ es. Leaves es (size ps) (size a.out.operators) (size ps) ps (ps ++ noops) in
     let left : h.code.exits ≡ [] = none_of a.exits.items h.code.exits (sym none ∙ h.code.added) in
     let leaves : L [] = record {
-      others = λ at level next op out lo hi s. StandsAmong-kept noops s;
+      others = λ at level next op out lo hi s. StandsAmong_kept noops s;
       aimed = λ at level next old kind among lo hi s. cc;
     } in
     h.code.claimed (filled ps) (size ps) (omega arith) (subst L (sym left) leaves) later known
@@ -243,15 +244,15 @@ module _ (s : Known) (level : ℕ) (returned : Option ℕ) (ds : PDecls) (ss : P
               (known : DraftAgrees (draft_noted d) later) where
             tables : (number : ℕ) (e : DeclaredLabel) → slice_get (entries_of level ds ss) number ≡ Some e → EntryAt later.labels qs number e
             tables number e there label stands =
-                let found = each_there (Found (label_spots_in ss)) (entries_of level ds ss) number e (entries_found level ds ss) there label stands in
+                let found = each_at (Found (label_spots_in ss)) (entries_of level ds ss) number e (entries_found level ds ss) there label stands in
                 let N : List Spot → Type 0 = λ l. Among label.spot l in
                 let n = noted_there d.labels.items label.spot (subst N (sym spots_are) found) in
                 let leads_to : leads d.labels.items e ≡ Some n.label.place = ap (place_there d.labels.items) stands ∙ n.place in
                 let there' : slice_get es number ≡ Some e = ap (λ (l : List DeclaredLabel). slice_get l number) are ∙ there in
                 let within : number < length es = slice_get_within es number e there' in
                 let branch = aimed.entries number e n.label.place there' leads_to in
-                let behind : size o.operators ≤ n.label.place = each_there (λ (l : Label). size o.operators ≤ l.place) d.labels.items n.number n.label labels_behind n.there in
-                let told : later.labels n.label.spot ≡ Some n.label.place = each_there (λ (l : Label). later.labels l.spot ≡ Some l.place) d.labels.items n.number n.label known.labels n.there in (
+                let behind : size o.operators ≤ n.label.place = each_at (λ (l : Label). size o.operators ≤ l.place) d.labels.items n.number n.label labels_behind n.there in
+                let told : later.labels n.label.spot ≡ Some n.label.place = each_at (λ (l : Label). later.labels l.spot ≡ Some l.place) d.labels.items n.number n.label known.labels n.there in (
                   n.label.place,
                   table_place number + 3,
                   ap later.labels (sym n.here) ∙ told,
@@ -289,7 +290,7 @@ module _ (s : Known) (level : ℕ) (returned : Option ℕ) (ds : PDecls) (ss : P
               code = record {
                 level = aimed.level ∙ m.code.level ∙ set ∙ sym at.set;
                 grown = omega (arith, start);
-                kept = λ x l next op lo hi st. absurd (omega (arith, start, hi, next-behind a.out.operators x l next op st));
+                kept = λ x l next op lo hi st. absurd (omega (arith, start, hi, next_behind a.out.operators x l next op st));
                 exits = [];
                 added = left ∙ sym (append-nil a.exits.items);
                 are = tt;

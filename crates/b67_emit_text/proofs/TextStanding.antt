@@ -17,11 +17,13 @@ use Rattle.b67_templates.specs.Code.{CellsAt, control_pcws}
 use Rattle.b67_emit_stmt.specs.declared.draft.Label.{Label}
 use Rattle.b67_emit_stmt.specs.Drafts.{DraftAgrees, IsFront, spots_of}
 use Rattle.b67_emit_stmt.specs.Places.{Later, Place}
+use Rattle.b67_list.proofs.Lists.{each_back, each_front}
+use Rattle.b67_list.proofs.Numbers.{some_same}
 use Rattle.b67_emit_text.specs.Programs.{AreDue, AreShort, Coded, EndAt, IsDue, LabelTableAt, TextAt, block_of_text, context_of}
 use Rattle.b67_emit_text.specs.Codes.{EndingAt, CodeStands, result_couple, result_index, zeros_for}
 use Rattle.b67_emit_text.specs.Texts.{StandOnce, Text, text_spots, spot_times}
 use Rattle.b67_emit_text.specs.Entries.{label_place_in}
-use Rattle.b67_emit_stmt.proofs.Notes.{all_back, all_front, front_self, front_trans}
+use Rattle.b67_emit_stmt.proofs.Notes.{front_self, front_trans}
 use Rattle.b67_emit_text.proofs.Spots.{placed_once}
 
 -- where a text stands
@@ -110,8 +112,8 @@ pub agrees_parts : (before formats : List Format) (xs ys : List Label) (later : 
     DraftAgrees (record { formats = before; labels = xs }) later × DraftAgrees (record { formats = formats; labels = ys }) later
 agrees_parts before formats xs ys later front known =
     let P : Label → Type 0 = λ l. later.labels l.spot ≡ Some l.place in (
-      record { formats = front_trans before formats later.formats front known.formats; labels = all_front P xs ys known.labels },
-      record { formats = known.formats; labels = all_back P xs ys known.labels },
+      record { formats = front_trans before formats later.formats front known.formats; labels = each_front P xs ys known.labels },
+      record { formats = known.formats; labels = each_back P xs ys known.labels },
     )
 
 -- where no two labels stand at one place, they can be found by their places
@@ -134,9 +136,6 @@ operators_of sc all [] ts h k = []
 operators_of sc all (x ∷ xs) [] h k = []
 operators_of sc all (x ∷ xs) (t ∷ ts) h zero = h.0.0
 operators_of sc all (x ∷ xs) (t ∷ ts) h (suc k) = operators_of sc all xs ts h.1 k
-
-some_same : {X : Type 0} (x y : X) → Some x ≡ Some y → x ≡ y
-some_same x y e = cc
 
 spells_at : (sc : Scopes) (all : Later) (xs : List Segment) (ts : List Text) (h : AllStand sc all xs ts) (k : ℕ) (x : Segment) → slice_get xs k ≡ Some x →
     Spells (operators_of sc all xs ts h k) x

@@ -33,7 +33,7 @@ pub each_from : (P : Text → Type 0) (ts : List Text) → ((k : ℕ) (t : Text)
 each_from P [] h = tt
 each_from P (t ∷ ts) h = (h 0 t refl, each_from P ts (λ k u e. h (suc k) u e))
 
-same_text : (x y : Text) → Some x ≡ Some y → x ≡ y
+pub same_text : (x y : Text) → Some x ≡ Some y → x ≡ y
 same_text x y e = cc
 
 pub each_at : (P : Text → Type 0) (ts : List Text) (k : ℕ) (t : Text) → Each P ts → slice_get ts k ≡ Some t → P t

@@ -18,12 +18,13 @@ use Rattle.algol_tree.specs.declared.tree.Stmt.TheVariants as shapes
 use Rattle.algol_tree.specs.Image.{body, decl, decls, expr, stmt, stmts}
 use Rattle.algol_tree.specs.Plain as tree
 use Rattle.algol_tree.specs.Plain.{PBody, PDecl, PStmt, PStmts}
-use Rattle.algol_scope.proofs.Bodies.{is_block, not_block_of}
+use Rattle.algol_tree.proofs.Images.{body_is}
+use Rattle.algol_scope.proofs.Bodies.{is_block, not_block_of, procedure_read}
 use Rattle.b67_ops.specs.declared.TheConstants.{MOST_LEVEL}
 use Rattle.b67_emit_text.specs.declared.texts.Procedure.{Procedure}
 use Rattle.b67_emit_text.specs.Texts.{Text, begin_level, procedure_text, text_of_procedure, texts_in_body, texts_in_decl, texts_in_decls, texts_in_stmts, texts_of, HaveLevels, HaveLevelsBody, HaveLevelsDecl, HaveLevelsDecls, HaveLevelsStmts}
 use Rattle.b67_emit_stmt.proofs.Gathered.{if_then_as}
-use Rattle.b67_emit_stmt.proofs.Shapes.{block_as, body_is, if_else_as}
+use Rattle.b67_emit_stmt.proofs.Shapes.{block_as, if_else_as}
 
 -- ---- a block
 
@@ -141,15 +142,9 @@ first_has s p e x o is first level has = by o is
 
 -- ---- a declaration of a procedure
 
-procedure_as : (d : Decl) (h : Heading) (b : Box Stmt Global) (x : Stmt) → d ≡ declarations.Procedure h b → x ≡ b.value → decl d ≡ tree.procedure h (stmt x)
-procedure_as d h b x is same = ap decl is ∙ own h b ∙ ap (λ (z : Stmt). tree.procedure h (stmt z)) (sym same)
-  where
-    own : (h : Heading) (b : Box Stmt Global) → decl (declarations.Procedure h b) ≡ tree.procedure h (stmt b.value)
-    own h b = search (rules, the_lemmas)
-
 module _ (d : Decl) (h : Heading) (b : Box Stmt Global) (x : Stmt) (is : d ≡ declarations.Procedure h b) (same : x ≡ b.value) (level : ℕ) where
   pub procedure_has : HaveLevelsDecl (decl d) level → (level + 1 ≤ MOST_LEVEL) × HaveLevels (stmt x) of_procedure (level + 1)
-  procedure_has has = subst (λ (z : PDecl). HaveLevelsDecl z level) (procedure_as d h b x is same) has
+  procedure_has has = subst (λ (z : PDecl). HaveLevelsDecl z level) (procedure_read d h b x is same) has
 
   -- the procedure itself comes before those within it
   pub declared_there : (y : Stmt) → y ≡ b.value → (old mid new : List Text) → mid ≡ old ++ (procedure_text (level + 1) h (stmt y) ∷ []) →
@@ -159,7 +154,7 @@ module _ (d : Decl) (h : Heading) (b : Box Stmt Global) (x : Stmt) (is : d ≡ d
       let own : procedure_text (level + 1) h (stmt y) ∷ [] ≡ procedure_text (level + 1) h (stmt x) ∷ [] =
       ap (λ (z : Stmt). procedure_text (level + 1) h (stmt z) ∷ []) (own_too ∙ sym same) in
       second ∙ ap (λ (l : List Text). l ++ rest) (first ∙ ap (λ (l : List Text). old ++ l) own)
-      ∙ append_assoc old (procedure_text (level + 1) h (stmt x) ∷ []) rest ∙ ap (λ (z : PDecl). old ++ texts_in_decl z level) (sym (procedure_as d h b x is same))
+      ∙ append_assoc old (procedure_text (level + 1) h (stmt x) ∷ []) rest ∙ ap (λ (z : PDecl). old ++ texts_in_decl z level) (sym (procedure_read d h b x is same))
 
 -- .. that is the last of those that are gathered
 pub pushed_there : (old mid : List Procedure) (p : Procedure) → mid ≡ old ++ (p ∷ []) → map text_of_procedure mid ≡ map text_of_procedure old ++ (text_of_procedure p ∷ [])

@@ -12,7 +12,7 @@ use Rattle.b67_ops.specs.Spelling.{spelling}
 use Rattle.b67_word.specs.Word.{operand}
 use Rattle.b67_segment.specs.Operators.{Placed, size}
 use Rattle.b67_segment.specs.Building.{Built, level_set, appended}
-use Rattle.b67_segment.proofs.Among.{StandsAmong-appended, StandsAmong-kept, size-append}
+use Rattle.b67_segment.proofs.Among.{StandsAmong_appended, StandsAmong_kept, size_append}
 use Rattle.b67_templates.specs.Fragments as literals
 use Rattle.b67_templates.specs.Fragments.{Has, AllAt, NumberAt, BranchAt, TurnAt, IsLiteral, IsWholeNumber}
 use Rattle.b67_templates.specs.Emitting.{Emitted, number_is_among, EmittedWithExits}
@@ -20,14 +20,14 @@ use Rattle.b67_emitter.proofs.Composing.{weaker, then}
 
 module _ (b : Built) (op : Operator) where
   size_is : size (appended b op).operators ≡ size b.operators + length (spelling (size b.operators) (level_set b) op)
-  size_is = size-append b.operators (record { level = level_set b; operator = op })
+  size_is = size_append b.operators (record { level = level_set b; operator = op })
 
   pub emitted : Emitted b (appended b op) (λ qs. Has qs (level_set b) (size b.operators) op (size (appended b op).operators))
   emitted = record {
     level = refl;
     grown = omega (arith, size_is);
-    kept = λ at level next other lo hi s. StandsAmong-kept (record { level = level_set b; operator = op } ∷ []) s;
-    claimed = λ qs k. k (size b.operators) (level_set b) (size (appended b op).operators) op (omega arith) (omega arith) (StandsAmong-appended b.operators (level_set b) op);
+    kept = λ at level next other lo hi s. StandsAmong_kept (record { level = level_set b; operator = op } ∷ []) s;
+    claimed = λ qs k. k (size b.operators) (level_set b) (size (appended b op).operators) op (omega arith) (omega arith) (StandsAmong_appended b.operators (level_set b) op);
   }
 
   pub emitted_as : (n : Built) → n ≡ appended b op → Emitted b n (λ qs. Has qs (level_set b) (size b.operators) op (size n.operators))
@@ -56,10 +56,10 @@ several_first b = record {
   wide = omega arith;
 }
 
-all-append : (qs : List Placed) (level : ℕ) (ks : List PlainKind) (k : PlainKind) (from middle to : ℕ) → AllAt qs level ks from middle →
+all_append : (qs : List Placed) (level : ℕ) (ks : List PlainKind) (k : PlainKind) (from middle to : ℕ) → AllAt qs level ks from middle →
     Has qs level middle (ops.Plain k) to → AllAt qs level (ks ++ k ∷ []) from to
-all-append qs level [] k from middle to e h = let H : ℕ → Type 0 = λ f. Has qs level f (ops.Plain k) to in (to, subst H (sym e) h, refl)
-all-append qs level (x ∷ ks) k from middle to (m, here, rest) h = (m, here, all-append qs level ks k m middle to rest h)
+all_append qs level [] k from middle to e h = let H : ℕ → Type 0 = λ f. Has qs level f (ops.Plain k) to in (to, subst H (sym e) h, refl)
+all_append qs level (x ∷ ks) k from middle to (m, here, rest) h = (m, here, all_append qs level ks k m middle to rest h)
 
 -- one more of them
 several_next : (ks : List PlainKind) (k : PlainKind) (a b c : Built) → Several ks a b →
@@ -69,7 +69,7 @@ several_next ks k a b c s e l w =
     let E : ℕ → Type 0 = λ n. Emitted b c (λ qs. Has qs n (size b.operators) (ops.Plain k) (size c.operators)) in
     record {
       code = weaker (λ qs. AllAt qs (level_set a) (ks ++ k ∷ []) (size a.operators) (size c.operators)) (then s.code (subst E (same_level a b s.level) e))
-          (λ qs both. all-append qs (level_set a) ks k (size a.operators) (size b.operators) (size c.operators) both.0 both.1);
+          (λ qs both. all_append qs (level_set a) ks k (size a.operators) (size b.operators) (size c.operators) both.0 both.1);
       level = l ∙ s.level;
       wide = omega (arith, s.wide, length-append ks (k ∷ []));
     }
@@ -100,7 +100,7 @@ number_code b n level op z l w e = weaker (λ qs. NumberAt qs level z (size b.op
 
 -- ---- branches
 
-among_itself : (n : ℕ) → number_is_among (n ∷ []) n ≡ true
+pub among_itself : (n : ℕ) → number_is_among (n ∷ []) n ≡ true
 among_itself n = ap (λ t. t || false) (eq-eqb n n refl)
 
 -- a branch is an exit, wherever it goes until it is aimed
@@ -121,18 +121,5 @@ branch_exit b n level old kind wide e =
         forward = omega (arith, wide);
       };
     }
-
--- exits that are put after others
-pub listed_behind : {a b : Built} {es : List ℕ} {P : List Placed → ℕ → Type 0} (xs ys : List ℕ) → ys ≡ xs ++ es → EmittedWithExits a b [] es P →
-    EmittedWithExits a b xs ys P
-listed_behind {a} {b} xs ys h e = record {
-  level = e.level;
-  grown = e.grown;
-  kept = e.kept;
-  exits = e.exits;
-  added = h ∙ ap (λ l. xs ++ l) e.added;
-  are = e.are;
-  claimed = e.claimed;
-}
 
 pub ruleset appending = (emitted_as, size_as)

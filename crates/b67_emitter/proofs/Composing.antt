@@ -5,8 +5,9 @@ use Rattle.b67_ops.specs.declared.Operator.TheVariants.{Branch}
 use Rattle.b67_segment.specs.Operators.{Placed, size}
 use Rattle.b67_segment.specs.Building.{Built}
 use Rattle.b67_templates.specs.Emitting.{Emitted, number_is_among, Leaves, AreExits, EmittedWithExits}
+use Rattle.b67_list.proofs.Truths.{or_second}
 use Rattle.b67_emitter.specs.Aiming.{Aimed}
-use Rattle.b67_emitter.proofs.Exits.{next-behind, is_among-append, or-left, or-right, none_before, none_behind, exits_kept, exits-append}
+use Rattle.b67_emitter.proofs.Exits.{next_behind, is_among_append, or_left, none_before, none_behind, exits_kept, exits_append}
 
 -- ---- the same code with a weaker claim
 
@@ -55,14 +56,14 @@ module _ (a b c : Built) (P Q : List Placed → ℕ → Type 0) (xs ys zs : List
       Leaves e.exits target (size a.operators) (size b.operators) b.operators qs
   first_leaves qs target l = record {
     others = λ at level next op out lo hi s.
-        let behind = next-behind b.operators at level next op s in
+        let behind = next_behind b.operators at level next op s in
         l.others at level next op
-        (is_among-append e.exits f.exits at ∙ or-left (number_is_among e.exits at) (number_is_among f.exits at) (none_before c.operators f.exits (size b.operators) (size c.operators) at f.are (omega arith)) ∙ out)
+        (is_among_append e.exits f.exits at ∙ or_left (number_is_among e.exits at) (number_is_among f.exits at) (none_before c.operators f.exits (size b.operators) (size c.operators) at f.are (omega arith)) ∙ out)
         lo (omega (arith, f.grown)) (f.kept at level next op (omega arith) hi s);
     aimed = λ at level next old kind among lo hi s.
-        let behind = next-behind b.operators at level next (Branch kind old) s in
+        let behind = next_behind b.operators at level next (Branch kind old) s in
         l.aimed at level next old kind
-        (is_among-append e.exits f.exits at ∙ or-left (number_is_among e.exits at) (number_is_among f.exits at) (none_before c.operators f.exits (size b.operators) (size c.operators) at f.are (omega arith)) ∙ among)
+        (is_among_append e.exits f.exits at ∙ or_left (number_is_among e.exits at) (number_is_among f.exits at) (none_before c.operators f.exits (size b.operators) (size c.operators) at f.are (omega arith)) ∙ among)
         lo (omega (arith, f.grown)) (f.kept at level next (Branch kind old) (omega arith) hi s);
   }
 
@@ -71,11 +72,11 @@ module _ (a b c : Built) (P Q : List Placed → ℕ → Type 0) (xs ys zs : List
   second_leaves qs target l = record {
     others = λ at level next op out lo hi s.
         l.others at level next op
-        (is_among-append e.exits f.exits at ∙ or-right (number_is_among e.exits at) (number_is_among f.exits at) (none_behind b.operators e.exits (size a.operators) (size b.operators) at e.are lo) ∙ out)
+        (is_among_append e.exits f.exits at ∙ or_second (number_is_among e.exits at) (number_is_among f.exits at) (none_behind b.operators e.exits (size a.operators) (size b.operators) at e.are lo) ∙ out)
         (omega (arith, e.grown)) hi s;
     aimed = λ at level next old kind among lo hi s.
         l.aimed at level next old kind
-        (is_among-append e.exits f.exits at ∙ or-right (number_is_among e.exits at) (number_is_among f.exits at) (none_behind b.operators e.exits (size a.operators) (size b.operators) at e.are lo) ∙ among)
+        (is_among_append e.exits f.exits at ∙ or_second (number_is_among e.exits at) (number_is_among f.exits at) (none_behind b.operators e.exits (size a.operators) (size b.operators) at e.are lo) ∙ among)
         (omega (arith, e.grown)) hi s;
   }
 
@@ -86,7 +87,7 @@ module _ (a b c : Built) (P Q : List Placed → ℕ → Type 0) (xs ys zs : List
     kept = λ at level next op lo hi s. f.kept at level next op lo (omega (arith, e.grown)) (e.kept at level next op lo hi s);
     exits = e.exits ++ f.exits;
     added = f.added ∙ ap (λ l. l ++ f.exits) e.added ∙ append_assoc xs e.exits f.exits;
-    are = exits-append c.operators e.exits f.exits (size a.operators) (size c.operators)
+    are = exits_append c.operators e.exits f.exits (size a.operators) (size c.operators)
         (exits_kept b.operators c.operators e.exits (size a.operators) (size b.operators) (size a.operators) (size c.operators) (omega arith) f.grown
         (λ at level next old kind lo hi s. (old, f.kept at level next (Branch kind old) (omega arith) hi s)) e.are)
         (exits_kept c.operators c.operators f.exits (size b.operators) (size c.operators) (size a.operators) (size c.operators) e.grown (omega arith)
@@ -112,7 +113,7 @@ module _ (a b c : Built) (P : List Placed → ℕ → Type 0) (xs ys : List ℕ)
     level = d.level ∙ e.level;
     grown = omega (arith, e.grown, d.place);
     kept = λ at level next op lo hi s.
-        let behind = next-behind a.operators at level next op s in
+        let behind = next_behind a.operators at level next op s in
         leaves.others at level next op (none_before b.operators e.exits (size a.operators) (size b.operators) at e.are (omega arith)) lo (omega (arith, e.grown))
         (e.kept at level next op lo hi s);
     claimed = λ qs k. e.claimed qs (size b.operators) (omega arith) (record {
@@ -130,11 +131,11 @@ module _ (a b c d : Built) (P Q : List Placed → ℕ → Type 0) (holes xs ys :
       Leaves e.exits (size c.operators) (size a.operators) (size b.operators) b.operators qs
   hole_leaves qs target l = record {
     others = λ at level next op out lo hi s.
-        let behind = next-behind b.operators at level next op s in
+        let behind = next_behind b.operators at level next op s in
         l.others at level next op (none_before c.operators f.exits (size b.operators) (size c.operators) at f.are (omega arith)) lo (omega (arith, f.grown, g.place))
         (g.leaves.others at level next op (ap (λ es. number_is_among es at) e.added ∙ out) (omega arith) (omega (arith, f.grown)) (f.kept at level next op (omega arith) hi s));
     aimed = λ at level next old kind among lo hi s.
-        let behind = next-behind b.operators at level next (Branch kind old) s in
+        let behind = next_behind b.operators at level next (Branch kind old) s in
         l.others at level next (Branch kind (size c.operators)) (none_before c.operators f.exits (size b.operators) (size c.operators) at f.are (omega arith)) lo
         (omega (arith, f.grown, g.place))
         (g.leaves.aimed at level next old kind (ap (λ es. number_is_among es at) e.added ∙ among) (omega arith) (omega (arith, f.grown)) (f.kept at level next (Branch kind old) (omega arith) hi s));
@@ -154,7 +155,7 @@ module _ (a b c d : Built) (P Q : List Placed → ℕ → Type 0) (holes xs ys :
     level = g.level ∙ f.level ∙ e.level;
     grown = omega (arith, e.grown, f.grown, g.place);
     kept = λ at level next op lo hi s.
-        let behind = next-behind a.operators at level next op s in
+        let behind = next_behind a.operators at level next op s in
         g.leaves.others at level next op (none_before b.operators holes (size a.operators) (size b.operators) at holes_are (omega arith)) lo (omega (arith, e.grown, f.grown))
         (f.kept at level next op lo (omega (arith, e.grown)) (e.kept at level next op lo hi s));
     exits = f.exits;

@@ -67,10 +67,10 @@ routine_part names segment place bits a b is fits h =
     let M : ℕ → Type 0 = λ n. Emitted a b (λ qs. Has qs (level_set a) (size a.operators) (ops.Mpcw n) (size b.operators)) in
     weaker (λ qs. ControlsAt qs (level_set a) (routine_at names segment place (level_set a + 1) ∷ []) (size a.operators) (size b.operators)) (subst M is h) (λ qs x. (size b.operators, x, fits, refl))
 
-pub controls-append : (qs : List Placed) (level : ℕ) (ks : List ℕ) (k from middle to : ℕ) → ControlsAt qs level (procedure_controls level ks) from middle → ControlsAt qs level (procedure_controls level (k ∷ [])) middle to →
+pub controls_append : (qs : List Placed) (level : ℕ) (ks : List ℕ) (k from middle to : ℕ) → ControlsAt qs level (procedure_controls level ks) from middle → ControlsAt qs level (procedure_controls level (k ∷ [])) middle to →
     ControlsAt qs level (procedure_controls level (ks ++ k ∷ [])) from to
-controls-append qs level [] k from middle to e h = let H : ℕ → Type 0 = λ f. ControlsAt qs level (procedure_controls level (k ∷ [])) f to in subst H (sym e) h
-controls-append qs level (x ∷ ks) k from middle to (m, here, fits, rest) h = (m, here, fits, controls-append qs level ks k m middle to rest h)
+controls_append qs level [] k from middle to e h = let H : ℕ → Type 0 = λ f. ControlsAt qs level (procedure_controls level (k ∷ [])) f to in subst H (sym e) h
+controls_append qs level (x ∷ ks) k from middle to (m, here, fits, rest) h = (m, here, fits, controls_append qs level ks k m middle to rest h)
 
 -- From the first builder to the second the control words of these segments were appended.
 pub record Controls (segments : List ℕ) (before after : Built) : Type 0 where
@@ -93,7 +93,7 @@ controls_next ks k a b c s e l w =
     let E : ℕ → Type 0 = λ n. Emitted b c (λ qs. ControlsAt qs n (procedure_controls n (k ∷ [])) (size b.operators) (size c.operators)) in
     record {
       code = weaker (λ qs. ControlsAt qs (level_set a) (procedure_controls (level_set a) (ks ++ k ∷ [])) (size a.operators) (size c.operators)) (then s.code (subst E (same_level a b s.level) e))
-          (λ qs both. controls-append qs (level_set a) ks k (size a.operators) (size b.operators) (size c.operators) both.0 both.1);
+          (λ qs both. controls_append qs (level_set a) ks k (size a.operators) (size b.operators) (size c.operators) both.0 both.1);
       level = l ∙ s.level;
       wide = omega (arith, s.wide, length-append ks (k ∷ []));
     }

@@ -1,5 +1,5 @@
 -- A subscript is moved by code after code.
-use Rattle.std.proofs.Common.{◌≡◌, ◌≢◌, ℕ, [], ◌∷◌, Bool, true, false, ℤ, pos, int_eq, refl, sym, ◌∙◌, subst, arith}
+use Rattle.std.proofs.Common.{◌≡◌, ◌≢◌, ℕ, [], ◌∷◌, Bool, true, false, ℤ, pos, int_eq, refl, sym, ◌∙◌, subst}
 use Rattle.std.specs.Prelude.{neg_ℤ}
 use Rattle.std.proofs.lemmas.Bool.Decides.{Decides-int_eq}
 use Rattle.b67_ops.specs.declared.Operator.TheVariants as ops
@@ -12,16 +12,6 @@ use Rattle.b67_emitter.proofs.Appends.{same_level}
 use Rattle.b67_emitter.proofs.Composing.{weaker, then}
 
 -- ---- a comparison times a number
-
-pub times_none : (factor : ℤ) (b : Built) → factor ≡ pos 1 → Emitted b b (λ qs. TimesAt qs (level_set b) factor (size b.operators) (size b.operators))
-times_none factor b one = record {
-  level = refl;
-  grown = omega arith;
-  kept = λ at level next op lo hi s. s;
-  claimed = λ qs k.
-      subst (λ z. TimesAt qs (level_set b) z (size b.operators) (size b.operators)) (sym one)
-      (let none : TimesAt qs (level_set b) (pos 1) (size b.operators) (size b.operators) = refl in none);
-}
 
 is_other : (factor : ℤ) (t : Bool) → int_eq factor (pos 1) ≡ t → factor ≢ pos 1 → t ≡ false
 is_other factor true e other = absurd (other ((Decides-int_eq factor (pos 1)).0 e))

@@ -95,12 +95,12 @@ events_found s scopes level (e ∷ es) h =
     let E : Couple → Type 0 = λ c. IsEvent scopes level e.name c in
     (subst E (sym (ap couple_there own.1)) own.2, events_found s scopes level es h.1)
 
-references-append : (qs : List Placed) (level : ℕ) (s : Names) (es : List EventName) (e : EventName) (c : Couple) (from middle to : ℕ) → couples s e.name.spot ≡ Some c →
+references_append : (qs : List Placed) (level : ℕ) (s : Names) (es : List EventName) (e : EventName) (c : Couple) (from middle to : ℕ) → couples s e.name.spot ≡ Some c →
     ReferencesAt qs level (couples_of s es) from middle → Has qs level middle (ops.Namc c) to → ReferencesAt qs level (couples_of s (es ++ e ∷ [])) from to
-references-append qs level s [] e c from middle to known same h =
+references_append qs level s [] e c from middle to known same h =
     let H : ℕ → Couple → Type 0 = λ f d. Has qs level f (ops.Namc d) to in
     (to, subst (H from) (sym (ap couple_there known)) (subst (λ f. H f c) (sym same) h), refl)
-references-append qs level s (x ∷ es) e c from middle to known (m, here, rest) h = (m, here, references-append qs level s es e c m middle to known rest h)
+references_append qs level s (x ∷ es) e c from middle to known (m, here, rest) h = (m, here, references_append qs level s es e c m middle to known rest h)
 
 -- From the first builder to the second the references of these events were appended.
 pub record Referred (s : Names) (es : List EventName) (before after : Built) : Type 0 where
@@ -123,7 +123,7 @@ referred_next s es e x a b c known r h l w =
     let H : ℕ → Type 0 = λ n. Emitted b c (λ qs. Has qs n (size b.operators) (ops.Namc x) (size c.operators)) in
     record {
       code = weaker (λ qs. ReferencesAt qs (level_set a) (couples_of s (es ++ e ∷ [])) (size a.operators) (size c.operators)) (then r.code (subst H (same_level a b r.level) h))
-          (λ qs both. references-append qs (level_set a) s es e x (size a.operators) (size b.operators) (size c.operators) known both.0 both.1);
+          (λ qs both. references_append qs (level_set a) s es e x (size a.operators) (size b.operators) (size c.operators) known both.0 both.1);
       level = l ∙ r.level;
       wide = omega (arith, r.wide, w, length-append es (e ∷ []));
     }

@@ -3,33 +3,22 @@ use Rattle.std.proofs.Common.{◌≡◌, ℕ, ◌+◌, ◌≤◌, ◌<◌, eqb, 
 use Rattle.std.specs.Prelude.{◌||◌}
 use Rattle.std.proofs.lemmas.Bool.{eqb-true, eqb-false, cases_Bool, cond-true, cond-false}
 use Rattle.std.proofs.lemmas.List.{drop_more, take_more}
-use Rattle.b67_ops.specs.declared.Operator.{Operator}
-use Rattle.b67_ops.specs.declared.Operator.TheVariants.{Valc, Namc, Lt8, Lt16, Lt48, Mpcw, Branch, Plain}
+use Rattle.b67_ops.specs.declared.Operator.TheVariants.{Branch}
 use Rattle.b67_ops.specs.declared.BranchKind.{BranchKind}
 use Rattle.b67_ops.specs.Spelling.{spelling}
 use Rattle.b67_segment.specs.Operators.{Placed, StandsAmong, width, text, size, aimed, aimed_from}
 use Rattle.b67_segment.specs.Building.{Built}
-use Rattle.b67_segment.proofs.Among.{StandsAmong-aimed, StandsAmong-branch}
+use Rattle.b67_segment.proofs.Among.{StandsAmong_aimed, StandsAmong_branch, aimed_width}
 use Rattle.b67_templates.specs.Emitting.{number_is_among, Leaves, AreExits}
-use Rattle.b67_emitter.proofs.Exits.{is_among-append, exits_kept}
+use Rattle.b67_emitter.proofs.Exits.{is_among_append, exits_kept}
 
 -- ---- one branch
 
-aimed-wide : (at level target : ℕ) (op : Operator) → length (spelling at level (aimed target op)) ≡ length (spelling at level op)
-aimed-wide at level target (Valc couple) = refl
-aimed-wide at level target (Namc couple) = refl
-aimed-wide at level target (Lt8 n) = refl
-aimed-wide at level target (Lt16 n) = refl
-aimed-wide at level target (Lt48 n) = refl
-aimed-wide at level target (Mpcw n) = refl
-aimed-wide at level target (Branch kind place) = refl
-aimed-wide at level target (Plain kind) = refl
-
 -- code is as long, wherever its branches go
-length-aimed : (from place target : ℕ) (ps : List Placed) → length (text from (aimed_from from place target ps)) ≡ length (text from ps)
-length-aimed from place target [] = refl
-length-aimed from place target (p ∷ ps) =
-    let wide = aimed-wide from p.level target p.operator in
+pub length_aimed : (from place target : ℕ) (ps : List Placed) → length (text from (aimed_from from place target ps)) ≡ length (text from ps)
+length_aimed from place target [] = refl
+length_aimed from place target (p ∷ ps) =
+    let wide = aimed_width from p.level target p.operator in
     let changed : Placed = record { level = p.level; operator = aimed target p.operator } in
     let next = from + width from p in
     elim (cases_Bool (eqb from place)) [
@@ -46,22 +35,22 @@ length-aimed from place target (p ∷ ps) =
           ap (λ qs. length (text from qs)) (cond-false (eqb from place) (changed ∷ ps) (p ∷ aimed_from next place target ps) other)
           ∙ omega (
             arith,
-            length-aimed next place target ps,
+            length_aimed next place target ps,
             length-append (spelling from p.level p.operator) (text next (aimed_from next place target ps)),
             length-append (spelling from p.level p.operator) (text next ps),
           )
     ]
 
 -- what is none of one, and none of the next
-or-none : (a b : Bool) → (a || (b || false)) ≡ false → (a ≡ false) × (b ≡ false)
-or-none true b h = cc
-or-none false true h = cc
-or-none false false h = (refl, refl)
+or_none : (a b : Bool) → (a || (b || false)) ≡ false → (a ≡ false) × (b ≡ false)
+or_none true b h = cc
+or_none false true h = cc
+or_none false false h = (refl, refl)
 
-or-last : (a b : Bool) → (a || (b || false)) ≡ true → b ≡ false → a ≡ true
-or-last true b h k = refl
-or-last false true h k = cc
-or-last false false h k = cc
+or_last : (a b : Bool) → (a || (b || false)) ≡ true → b ≡ false → a ≡ true
+or_last true b h k = refl
+or_last false true h k = cc
+or_last false false h k = cc
 
 -- a branch stays one
 still_branch : (ps : List Placed) (branch target at level next old : ℕ) (kind : BranchKind) → StandsAmong ps at level (Branch kind old) next →
@@ -69,8 +58,8 @@ still_branch : (ps : List Placed) (branch target at level next old : ℕ) (kind 
 still_branch ps branch target at level next old kind s =
     elim (cases_Bool (eqb at branch)) [
       | inl same ↦
-          (target, subst (λ b. StandsAmong (aimed_from 0 b target ps) at level (Branch kind target) next) (eqb-true at branch same) (StandsAmong-branch target s))
-      | inr other ↦ (old, StandsAmong-aimed branch target (eqb-false at branch other) s)
+          (target, subst (λ b. StandsAmong (aimed_from 0 b target ps) at level (Branch kind target) next) (eqb-true at branch same) (StandsAmong_branch target s))
+      | inr other ↦ (old, StandsAmong_aimed branch target (eqb-false at branch other) s)
     ]
 
 module _ (ps qs : List Placed) (done : List ℕ) (x target from to : ℕ) (l : Leaves done target from to ps qs) where
@@ -89,17 +78,17 @@ module _ (ps qs : List Placed) (done : List ℕ) (x target from to : ℕ) (l : L
       elim (cases_Bool (eqb x at)) [
         | inl same ↦
             subst (λ b. StandsAmong (aimed_from 0 b target qs) at level (Branch kind target) next) (sym (eqb-true x at same))
-            (StandsAmong-branch target (branch_there at level next old kind lo hi s).1)
+            (StandsAmong_branch target (branch_there at level next old kind lo hi s).1)
         | inr other ↦
-            StandsAmong-aimed x target (λ q. eqb-false x at other (sym q))
-            (l.aimed at level next old kind (or-last (number_is_among done at) (eqb x at) (sym (is_among-append done (x ∷ []) at) ∙ among) other) lo hi s)
+            StandsAmong_aimed x target (λ q. eqb-false x at other (sym q))
+            (l.aimed at level next old kind (or_last (number_is_among done at) (eqb x at) (sym (is_among_append done (x ∷ []) at) ∙ among) other) lo hi s)
       ]
 
-  leaves-more : Leaves (done ++ x ∷ []) target from to ps (aimed_from 0 x target qs)
-  leaves-more = record {
+  leaves_more : Leaves (done ++ x ∷ []) target from to ps (aimed_from 0 x target qs)
+  leaves_more = record {
     others = λ at level next op out lo hi s.
-        let none = or-none (number_is_among done at) (eqb x at) (sym (is_among-append done (x ∷ []) at) ∙ out) in
-        StandsAmong-aimed x target (λ q. eqb-false x at none.1 (sym q)) (l.others at level next op none.0 lo hi s);
+        let none = or_none (number_is_among done at) (eqb x at) (sym (is_among_append done (x ∷ []) at) ∙ out) in
+        StandsAmong_aimed x target (λ q. eqb-false x at none.1 (sym q)) (l.others at level next op none.0 lo hi s);
     aimed = aimed_there;
   }
 
@@ -112,12 +101,12 @@ pub record Midway (done left : List ℕ) (before now : Built) : Type 0 where
   pub leaves : Leaves done (size before.operators) 0 (size before.operators) before.operators now.operators
   pub branches : AreExits now.operators left 0 (size before.operators)
 
-midway-next : (done left : List ℕ) (x : ℕ) (b n : Built) → Midway done (x ∷ left) b n →
+midway_next : (done left : List ℕ) (x : ℕ) (b n : Built) → Midway done (x ∷ left) b n →
     Midway (done ++ x ∷ []) left b (record n { operators = aimed_from 0 x (size b.operators) n.operators })
-midway-next done left x b n m = record {
+midway_next done left x b n m = record {
   level = m.level;
-  place = length-aimed 0 x (size b.operators) n.operators ∙ m.place;
-  leaves = leaves-more b.operators n.operators done x (size b.operators) 0 (size b.operators) m.leaves;
+  place = length_aimed 0 x (size b.operators) n.operators ∙ m.place;
+  leaves = leaves_more b.operators n.operators done x (size b.operators) 0 (size b.operators) m.leaves;
   branches = exits_kept n.operators (aimed_from 0 x (size b.operators) n.operators) left 0 (size b.operators) 0 (size b.operators) (omega arith) (omega arith)
       (λ at level next old kind lo hi s. still_branch n.operators x (size b.operators) at level next old kind s) m.branches.1;
 }
@@ -130,10 +119,10 @@ module _ (xs : List ℕ) (i x : ℕ) (b n : Built) (within : i < length xs) (is 
   split = let M : List ℕ → Type 0 = λ ys. Midway (take i xs) ys b n in subst M left_are m
 
   -- one more of them is aimed
-  pub midway-more : (c : Built) (target : ℕ) → target ≡ size b.operators → c ≡ record n { operators = aimed_from 0 x target n.operators } →
+  pub midway_more : (c : Built) (target : ℕ) → target ≡ size b.operators → c ≡ record n { operators = aimed_from 0 x target n.operators } →
       Midway (take (i + 1) xs) (drop (i + 1) xs) b c
-  midway-more c target t e =
+  midway_more c target t e =
       let M : List ℕ → Type 0 = λ ys. Midway ys (drop (i + 1) xs) b (record n { operators = aimed_from 0 x (size b.operators) n.operators }) in
       let N : Built → Type 0 = λ d. Midway (take (i + 1) xs) (drop (i + 1) xs) b d in
       subst N (ap (λ y. record n { operators = aimed_from 0 x y n.operators }) (sym t) ∙ sym e)
-      (subst M (ap (λ y. take i xs ++ y ∷ []) is ∙ sym (take_more xs i 0 within)) (midway-next (take i xs) (drop (i + 1) xs) x b n split))
+      (subst M (ap (λ y. take i xs ++ y ∷ []) is ∙ sym (take_more xs i 0 within)) (midway_next (take i xs) (drop (i + 1) xs) x b n split))

@@ -8,7 +8,7 @@ use Rattle.b67_ops.specs.declared.intrinsic.Intrinsic.{Intrinsic}
 use Rattle.b67_ops.specs.declared.intrinsic.Intrinsic.TheVariants.{GoTo, Select, Arrays, Event, Start, Write, Wait, Cause, Reset, Happened, Procure, Liberate, WaitAny, CauseAndReset, Available, Fix}
 use Rattle.b67_ops.specs.Intrinsics.{couple_of_intrinsic}
 use Rattle.b67_ops.specs.Spelling.{index_bits, CoupleIsSeen}
-use Rattle.b67_ops.proofs.Couples.{level_bits-within}
+use Rattle.b67_ops.proofs.Couples.{level_bits_within}
 
 pub some : {A : Type 0} (o : Option A) (x : A) → o ≡ Some x → IsSome o
 some {A} o x e = let S : Option A → Type 0 = λ y. IsSome y in subst S (sym e) refl
@@ -34,7 +34,7 @@ intrinsic_near Fix = lit< tt
 module _ (level : ℕ) where
   wide_index : 2 + MOST_BLOCK_CELLS ≤ 2 ^ index_bits level
   wide_index =
-      let bits = level_bits-within level in
+      let bits = level_bits_within level in
       let least : 9 ≤ index_bits level = omega arith in
       let more : 2 ^ 9 ≤ 2 ^ index_bits level = pow_mono {i = 9} {j = index_bits level} least in
       omega arith

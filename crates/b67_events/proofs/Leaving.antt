@@ -9,35 +9,30 @@ use Rattle.b67_events.specs.Kept.{same_queue, stands_in, waiters_listed, EventEn
 use Rattle.b67_events.specs.declared.Queue.{Queue}
 use Rattle.b67_events.specs.declared.Queue.TheVariants.{Waiters, Procurers}
 use Rattle.b67_events.specs.declared.Waiting.{Waiting}
-use Rattle.b67_events.proofs.Listed.{filter-kept}
-use Rattle.b67_events.proofs.Shown.{made-same, events-caused}
-use Rattle.b67_events.proofs.Stood.{first-is_filter, once-filter}
+use Rattle.b67_events.proofs.Listed.{filter_kept}
+use Rattle.b67_events.proofs.Shown.{made_same, events_caused}
+use Rattle.b67_events.proofs.Stood.{first_is_filter, once_filter}
 
 module _ {X : Type 0} where
   -- a filter after another one is one by both tests
-  pub filter-twice : (a b c : X → Bool) → ((x : X) → c x ≡ (b x && a x)) → (xs : List X) → filter a (filter b xs) ≡ filter c xs
-  filter-twice a b c both [] = refl
-  filter-twice a b c both (x ∷ xs) = elim (cases_Bool (b x)) [
+  pub filter_twice : (a b c : X → Bool) → ((x : X) → c x ≡ (b x && a x)) → (xs : List X) → filter a (filter b xs) ≡ filter c xs
+  filter_twice a b c both [] = refl
+  filter_twice a b c both (x ∷ xs) = elim (cases_Bool (b x)) [
     | inl e ↦
         ap (filter a) (cond-true (b x) (x ∷ filter b xs) (filter b xs) e)
-        ∙ ap (λ ys. cond (a x) (x ∷ ys) ys) (filter-twice a b c both xs)
+        ∙ ap (λ ys. cond (a x) (x ∷ ys) ys) (filter_twice a b c both xs)
         ∙ ap (λ t. cond t (x ∷ filter c xs) (filter c xs)) (sym (both x ∙ ap (λ t. t && a x) e))
     | inr e ↦
-        ap (filter a) (cond-false (b x) (x ∷ filter b xs) (filter b xs) e) ∙ filter-twice a b c both xs
+        ap (filter a) (cond-false (b x) (x ∷ filter b xs) (filter b xs) e) ∙ filter_twice a b c both xs
         ∙ sym (cond-false (c x) (x ∷ filter c xs) (filter c xs) (both x ∙ ap (λ t. t && a x) e))
   ]
 
-  -- filters by tests that are alike
-  pub filter-alike : (a b : X → Bool) → ((x : X) → a x ≡ b x) → (xs : List X) → filter a xs ≡ filter b xs
-  filter-alike a b same [] = refl
-  filter-alike a b same (x ∷ xs) = ap (λ t. cond t (x ∷ filter a xs) (filter a xs)) (same x) ∙ ap (λ ys. cond (b x) (x ∷ ys) ys) (filter-alike a b same xs)
+  pub filter_every : (a : X → Bool) → ((x : X) → a x ≡ true) → (xs : List X) → filter a xs ≡ xs
+  filter_every a all [] = refl
+  filter_every a all (x ∷ xs) = cond-true (a x) (x ∷ filter a xs) (filter a xs) (all x) ∙ ap (λ ys. x ∷ ys) (filter_every a all xs)
 
-  pub filter-every : (a : X → Bool) → ((x : X) → a x ≡ true) → (xs : List X) → filter a xs ≡ xs
-  filter-every a all [] = refl
-  filter-every a all (x ∷ xs) = cond-true (a x) (x ∷ filter a xs) (filter a xs) (all x) ∙ ap (λ ys. x ∷ ys) (filter-every a all xs)
-
-eqb-turn : (a b : ℕ) → eqb a b ≡ eqb b a
-eqb-turn a b = elim (cases_Bool (eqb a b)) [
+eqb_turn : (a b : ℕ) → eqb a b ≡ eqb b a
+eqb_turn a b = elim (cases_Bool (eqb a b)) [
   | inl e ↦ e ∙ sym (eq-eqb b a (sym (eqb-true a b e)))
   | inr e ↦ e ∙ sym (false_from_ne_true (eqb b a) (λ h. both_ways (eqb a b) e (eq-eqb a b (sym (eqb-true b a h)))))
 ]
@@ -56,10 +51,10 @@ abbrev stays_as : ℕ → Waiting → Bool
 stays_as p w = not (leaves_as p w)
 
 -- of the waiters of an event that process goes
-listed-left : (p : ℕ) (at : Place) (ws : List Waiting) → waiters_listed Waiters at (filter (stays_as p) ws) ≡ filter (λ q. not (eqb p q)) (waiters_listed Waiters at ws)
-listed-left p at [] = refl
-listed-left p at (w ∷ ws) =
-    let rest = listed-left p at ws in
+listed_left : (p : ℕ) (at : Place) (ws : List Waiting) → waiters_listed Waiters at (filter (stays_as p) ws) ≡ filter (λ q. not (eqb p q)) (waiters_listed Waiters at ws)
+listed_left p at [] = refl
+listed_left p at (w ∷ ws) =
+    let rest = listed_left p at ws in
     let t = stands_in Waiters at w in
     let left : List ℕ → List ℕ = filter (λ q. not (eqb p q)) in
     let numbers : List Waiting → List ℕ = map (λ v. v.process) in
@@ -68,7 +63,7 @@ listed-left p at (w ∷ ws) =
     elim (cases_Bool t) [
       | inl e ↦
           let waits : same_queue Waiters w.queue ≡ true = (and_parts (same_place at w.place) (same_queue Waiters w.queue) e).1 in
-          let test : leaves_as p w ≡ eqb p w.process = ap (λ b. b && eqb w.process p) waits ∙ eqb-turn w.process p in
+          let test : leaves_as p w ≡ eqb p w.process = ap (λ b. b && eqb w.process p) waits ∙ eqb_turn w.process p in
           elim (cases_Bool (eqb p w.process)) [
             | inl k ↦
                 ap (waiters_listed Waiters at) (cond-false (stays_as p w) (w ∷ mine) mine (not_from_true (leaves_as p w) (test ∙ k))) ∙ rest
@@ -92,9 +87,9 @@ listed-left p at (w ∷ ws) =
     ]
 
 -- its procurers stay
-procurers-stay : (p : ℕ) (at : Place) (ws : List Waiting) → waiters_listed Procurers at (filter (stays_as p) ws) ≡ waiters_listed Procurers at ws
-procurers-stay p at ws =
-    ap (map (λ w. w.process)) (filter-kept (stands_in Procurers at) (stays_as p) (λ w s. not_from_false (leaves_as p w)
+procurers_stay : (p : ℕ) (at : Place) (ws : List Waiting) → waiters_listed Procurers at (filter (stays_as p) ws) ≡ waiters_listed Procurers at ws
+procurers_stay p at ws =
+    ap (map (λ w. w.process)) (filter_kept (stands_in Procurers at) (stays_as p) (λ w s. not_from_false (leaves_as p w)
     (and_left (same_queue Waiters w.queue) (eqb w.process p) (no_waiter w.queue (and_parts (same_place at w.place) (same_queue Procurers w.queue) s).1))) ws)
   where
     no_waiter : (queue : Queue) → same_queue Procurers queue ≡ true → same_queue Waiters queue ≡ false
@@ -102,13 +97,13 @@ procurers-stay p at ws =
     no_waiter Procurers h = refl
 
 -- a process leaves all events
-events-left : (p : ℕ) (ws : List Waiting) (fs : List EventEntry) → map (with_state (left_by p)) (events_of fs ws) ≡ events_of fs (filter (stays_as p) ws)
-events-left p ws [] = refl
-events-left p ws (x ∷ fs) =
+events_left : (p : ℕ) (ws : List Waiting) (fs : List EventEntry) → map (with_state (left_by p)) (events_of fs ws) ≡ events_of fs (filter (stays_as p) ws)
+events_left p ws [] = refl
+events_left p ws (x ∷ fs) =
     ap (λ e. e ∷ map (with_state (left_by p)) (events_of fs ws))
-    (sym (made-same x (waiters_listed Waiters x.0 (filter (stays_as p) ws)) (waiters_listed Procurers x.0 (filter (stays_as p) ws))
-    (filter (λ q. not (eqb p q)) (waiters_listed Waiters x.0 ws)) (waiters_listed Procurers x.0 ws) (listed-left p x.0 ws) (procurers-stay p x.0 ws)))
-    ∙ ap (λ es. event_shown (filter (stays_as p) ws) x ∷ es) (events-left p ws fs)
+    (sym (made_same x (waiters_listed Waiters x.0 (filter (stays_as p) ws)) (waiters_listed Procurers x.0 (filter (stays_as p) ws))
+    (filter (λ q. not (eqb p q)) (waiters_listed Waiters x.0 ws)) (waiters_listed Procurers x.0 ws) (listed_left p x.0 ws) (procurers_stay p x.0 ws)))
+    ∙ ap (λ es. event_shown (filter (stays_as p) ws) x ∷ es) (events_left p ws fs)
 
 both_stay : (s a b : Bool) → not (s && (a || b)) ≡ (not (s && a) && not (s && b))
 both_stay true true b = refl
@@ -120,21 +115,21 @@ none_stay true = refl
 none_stay false = refl
 
 -- these processes leave all events
-pub events-withdrawn : (ps : List ℕ) (ws : List Waiting) (fs : List EventEntry) → withdrawn ps (events_of fs ws) ≡ events_of fs (filter (stays ps) ws)
-events-withdrawn [] ws fs = ap (events_of fs) (sym (filter-every (stays []) (λ w. none_stay (same_queue Waiters w.queue)) ws))
-events-withdrawn (p ∷ ps) ws fs =
-    ap (withdrawn ps) (events-left p ws fs)
-    ∙ events-withdrawn ps (filter (stays_as p) ws) fs
-    ∙ ap (events_of fs) (filter-twice (stays ps) (stays_as p) (stays (p ∷ ps)) (λ w. both_stay (same_queue Waiters w.queue) (eqb w.process p) (waiter_is_one_of ps w.process)) ws)
+pub events_withdrawn : (ps : List ℕ) (ws : List Waiting) (fs : List EventEntry) → withdrawn ps (events_of fs ws) ≡ events_of fs (filter (stays ps) ws)
+events_withdrawn [] ws fs = ap (events_of fs) (sym (filter_every (stays []) (λ w. none_stay (same_queue Waiters w.queue)) ws))
+events_withdrawn (p ∷ ps) ws fs =
+    ap (withdrawn ps) (events_left p ws fs)
+    ∙ events_withdrawn ps (filter (stays_as p) ws) fs
+    ∙ ap (events_of fs) (filter_twice (stays ps) (stays_as p) (stays (p ∷ ps)) (λ w. both_stay (same_queue Waiters w.queue) (eqb w.process p) (waiter_is_one_of ps w.process)) ws)
 
 -- An event has happened, or has not; and those who waited for it leave all events.
-pub events-released : (at : Place) (b : Bool) (fs : List EventEntry) (ws : List Waiting)
+pub events_released : (at : Place) (b : Bool) (fs : List EventEntry) (ws : List Waiting)
     → events_of (set_flags at (with_happened b) fs) (filter (stays (waiters_listed Waiters at ws)) (filter (λ w. not (stands_in Waiters at w)) ws))
     ≡ withdrawn (waiters_listed Waiters at ws) (event_changed at (with_state (without_waiters b)) (events_of fs ws))
-events-released at b fs ws =
+events_released at b fs ws =
     let ps = waiters_listed Waiters at ws in
-    sym (events-withdrawn ps (filter (λ w. not (stands_in Waiters at w)) ws) (set_flags at (with_happened b) fs))
-    ∙ ap (withdrawn ps) (events-caused at b fs ws)
+    sym (events_withdrawn ps (filter (λ w. not (stands_in Waiters at w)) ws) (set_flags at (with_happened b) fs))
+    ∙ ap (withdrawn ps) (events_caused at b fs ws)
 
 -- ---- by their lists
 
@@ -147,20 +142,20 @@ left_both false true true m = refl
 left_both false true false m = refl
 left_both false false s m = refl
 
-pub leave-step : (p : ℕ) (at : Place) (rest : List Place) (ws : List Waiting) → StandOnce ws
+pub leave_step : (p : ℕ) (at : Place) (rest : List Place) (ws : List Waiting) → StandOnce ws
     → filter (λ w. not (is_left p rest w)) (without_first (is_same (record { process = p; place = at; queue = Waiters })) ws)
     ≡ filter (λ w. not (is_left p (at ∷ rest) w)) ws
-leave-step p at rest ws once =
+leave_step p at rest ws once =
     let one : Waiting = record { process = p; place = at; queue = Waiters } in
-    ap (filter (λ w. not (is_left p rest w))) (first-is_filter one ws once)
-    ∙ filter-twice (λ w. not (is_left p rest w)) (λ w. not (is_same one w)) (λ w. not (is_left p (at ∷ rest) w))
+    ap (filter (λ w. not (is_left p rest w))) (first_is_filter one ws once)
+    ∙ filter_twice (λ w. not (is_left p rest w)) (λ w. not (is_same one w)) (λ w. not (is_left p (at ∷ rest) w))
     (λ w. left_both (same_queue Waiters w.queue) (eqb w.process p) (same_place at w.place) (event_is_among rest w.place)
-    ∙ ap (λ e. not (e && (same_place at w.place && same_queue Waiters w.queue)) && not (is_left p rest w)) (eqb-turn w.process p)) ws
+    ∙ ap (λ e. not (e && (same_place at w.place && same_queue Waiters w.queue)) && not (is_left p rest w)) (eqb_turn w.process p)) ws
 
-pub once-left : (p : ℕ) (at : Place) (ws : List Waiting) → StandOnce ws → StandOnce (without_first (is_same (record { process = p; place = at; queue = Waiters })) ws)
-once-left p at ws once =
+pub once_left : (p : ℕ) (at : Place) (ws : List Waiting) → StandOnce ws → StandOnce (without_first (is_same (record { process = p; place = at; queue = Waiters })) ws)
+once_left p at ws once =
     let one : Waiting = record { process = p; place = at; queue = Waiters } in
-    subst StandOnce (sym (first-is_filter one ws once)) (once-filter (λ w. not (is_same one w)) ws once)
+    subst StandOnce (sym (first_is_filter one ws once)) (once_filter (λ w. not (is_same one w)) ws once)
 
 none_goes : (q e : Bool) → not (q && (e && false)) ≡ true
 none_goes true true = refl
@@ -168,13 +163,13 @@ none_goes true false = refl
 none_goes false e = refl
 
 -- of no events nobody waits
-pub left-none : (p : ℕ) (places : List Place) (ws : List Waiting) → places ≡ [] → filter (λ w. not (is_left p places w)) ws ≡ ws
-left-none p places ws none =
-    ap (λ l. filter (λ w. not (is_left p l w)) ws) none ∙ filter-every (λ w. not (is_left p [] w)) (λ w. none_goes (same_queue Waiters w.queue) (eqb w.process p)) ws
+pub left_none : (p : ℕ) (places : List Place) (ws : List Waiting) → places ≡ [] → filter (λ w. not (is_left p places w)) ws ≡ ws
+left_none p places ws none =
+    ap (λ l. filter (λ w. not (is_left p l w)) ws) none ∙ filter_every (λ w. not (is_left p [] w)) (λ w. none_goes (same_queue Waiters w.queue) (eqb w.process p)) ws
 
-pub named-none : (ps : List ℕ) (lists : List (List Place)) (ws : List Waiting) → ps ≡ [] → filter (λ w. not (is_named ps lists w)) ws ≡ ws
-named-none ps lists ws none =
-    ap (λ l. filter (λ w. not (is_named l lists w)) ws) none ∙ filter-every (λ w. not (is_named [] lists w)) (λ w. none_stay (same_queue Waiters w.queue)) ws
+pub named_none : (ps : List ℕ) (lists : List (List Place)) (ws : List Waiting) → ps ≡ [] → filter (λ w. not (is_named ps lists w)) ws ≡ ws
+named_none ps lists ws none =
+    ap (λ l. filter (λ w. not (is_named l lists w)) ws) none ∙ filter_every (λ w. not (is_named [] lists w)) (λ w. none_stay (same_queue Waiters w.queue)) ws
 
 named_both : (q e o m : Bool) → not (q && ((e || o) && m)) ≡ (not (q && (e && m)) && not (q && (o && m)))
 named_both true true o true = refl
@@ -187,10 +182,10 @@ list_where : (e : Bool) (a b : Bool) → (e ≡ true → a ≡ b) → (e && a) �
 list_where true a b h = h refl
 list_where false a b h = refl
 
-pub named-step : (p : ℕ) (rest : List ℕ) (lists : List (List Place)) (ws : List Waiting)
+pub named_step : (p : ℕ) (rest : List ℕ) (lists : List (List Place)) (ws : List Waiting)
     → filter (λ w. not (is_named rest lists w)) (filter (λ w. not (is_left p (list_of p lists) w)) ws) ≡ filter (λ w. not (is_named (p ∷ rest) lists w)) ws
-named-step p rest lists ws =
-    filter-twice (λ w. not (is_named rest lists w)) (λ w. not (is_left p (list_of p lists) w)) (λ w. not (is_named (p ∷ rest) lists w))
+named_step p rest lists ws =
+    filter_twice (λ w. not (is_named rest lists w)) (λ w. not (is_left p (list_of p lists) w)) (λ w. not (is_named (p ∷ rest) lists w))
     (λ w. named_both (same_queue Waiters w.queue) (eqb w.process p) (waiter_is_one_of rest w.process) (event_is_among (list_of w.process lists) w.place)
     ∙ ap (λ k. not (same_queue Waiters w.queue && k) && not (is_named rest lists w))
     (list_where (eqb w.process p) (event_is_among (list_of w.process lists) w.place) (event_is_among (list_of p lists) w.place)

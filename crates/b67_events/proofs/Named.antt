@@ -9,52 +9,52 @@ use Rattle.b67_events.specs.Events.{same_place, is_open, waiter_is_one_of, event
 use Rattle.b67_events.specs.Kept.{same_queue, stands_in, waiters_listed, EventEntry, events_of, has_flags, AreWithin, among, without_first, joiners, stand, stand_all, is_named, waits_at, AreNamed, PlacesAreListed}
 use Rattle.b67_events.specs.declared.Queue.TheVariants.{Waiters, Procurers}
 use Rattle.b67_events.specs.declared.Waiting.{Waiting}
-use Rattle.b67_events.proofs.Listed.{same_place-self, place_of}
-use Rattle.b67_events.proofs.Queued.{any-filter, any-first}
+use Rattle.b67_events.proofs.Listed.{same_place_self, place_of}
+use Rattle.b67_events.proofs.Queued.{any_filter, any_first}
 use Rattle.b67_events.proofs.Joined.{one}
-use Rattle.b67_events.proofs.OfSeveral.{list-own, list-other, list-unlisted, list-length, unlisted-length}
+use Rattle.b67_events.proofs.OfSeveral.{list_own, list_other, list_unlisted, list_length, unlisted_length}
 use Rattle.b67_events.proofs.Leaving.{leaves, stays}
 use Rattle.b67_events.proofs.Shown.{open-shown}
-use Rattle.b67_events.proofs.Stood.{AreLow, any-stand}
+use Rattle.b67_events.proofs.Stood.{AreLow, any_stand, no_more}
 
 -- one who waits for the event at a place to happen, as this process
 abbrev pub waits_so : Place → ℕ → Waiting → Bool
 waits_so at p w = stands_in Waiters at w && eqb p w.process
 
-pub waits-any : (p : ℕ) (at : Place) (ws : List Waiting) → waiter_is_one_of (waiters_listed Waiters at ws) p ≡ list_any (waits_so at p) ws
-waits-any p at [] = refl
-waits-any p at (w ∷ ws) =
+pub waits_any : (p : ℕ) (at : Place) (ws : List Waiting) → waiter_is_one_of (waiters_listed Waiters at ws) p ≡ list_any (waits_so at p) ws
+waits_any p at [] = refl
+waits_any p at (w ∷ ws) =
     let t = stands_in Waiters at w in
     let rest = filter (stands_in Waiters at) ws in
     let numbers : List Waiting → List ℕ = map (λ v. v.process) in
     elim (cases_Bool t) [
       | inl e ↦
           ap (λ vs. waiter_is_one_of (numbers vs) p) (cond-true t (w ∷ rest) rest e)
-          ∙ ap (λ b. eqb p w.process || b) (waits-any p at ws) ∙ ap (λ b. b && eqb p w.process || list_any (waits_so at p) ws) (sym e)
+          ∙ ap (λ b. eqb p w.process || b) (waits_any p at ws) ∙ ap (λ b. b && eqb p w.process || list_any (waits_so at p) ws) (sym e)
       | inr e ↦
           ap (λ vs. waiter_is_one_of (numbers vs) p) (cond-false t (w ∷ rest) rest e)
-          ∙ waits-any p at ws ∙ ap (λ b. b && eqb p w.process || list_any (waits_so at p) ws) (sym e)
+          ∙ waits_any p at ws ∙ ap (λ b. b && eqb p w.process || list_any (waits_so at p) ws) (sym e)
     ]
 
-any-less : (t : Waiting → Bool) (vs ws : List Waiting) → (list_any t ws ≡ false → list_any t vs ≡ false) → list_any t vs ≡ true → list_any t ws ≡ true
-any-less t vs ws none h = elim (cases_Bool (list_any t ws)) [
+any_less : (t : Waiting → Bool) (vs ws : List Waiting) → (list_any t ws ≡ false → list_any t vs ≡ false) → list_any t vs ≡ true → list_any t ws ≡ true
+any_less t vs ws none h = elim (cases_Bool (list_any t ws)) [
   | inl e ↦ e
   | inr e ↦ absurd (both_ways (list_any t vs) (none e) h)
 ]
 
-waits-less : (p : ℕ) (at : Place) (vs ws : List Waiting) → (list_any (waits_so at p) ws ≡ false → list_any (waits_so at p) vs ≡ false)
+waits_less : (p : ℕ) (at : Place) (vs ws : List Waiting) → (list_any (waits_so at p) ws ≡ false → list_any (waits_so at p) vs ≡ false)
     → waits_at vs p at → waits_at ws p at
-waits-less p at vs ws none h = waits-any p at ws ∙ any-less (waits_so at p) vs ws none (sym (waits-any p at vs) ∙ h)
+waits_less p at vs ws none h = waits_any p at ws ∙ any_less (waits_so at p) vs ws none (sym (waits_any p at vs) ∙ h)
 
-pub waits-filter : (r : Waiting → Bool) (ws : List Waiting) (p : ℕ) (at : Place) → waits_at (filter r ws) p at → waits_at ws p at
-waits-filter r ws p at h = waits-less p at (filter r ws) ws (any-filter (waits_so at p) r ws) h
+pub waits_filter : (r : Waiting → Bool) (ws : List Waiting) (p : ℕ) (at : Place) → waits_at (filter r ws) p at → waits_at ws p at
+waits_filter r ws p at h = waits_less p at (filter r ws) ws (any_filter (waits_so at p) r ws) h
 
-pub waits-first : (r : Waiting → Bool) (ws : List Waiting) (p : ℕ) (at : Place) → waits_at (without_first r ws) p at → waits_at ws p at
-waits-first r ws p at h = waits-less p at (without_first r ws) ws (any-first (waits_so at p) r ws) h
+pub waits_first : (r : Waiting → Bool) (ws : List Waiting) (p : ℕ) (at : Place) → waits_at (without_first r ws) p at → waits_at ws p at
+waits_first r ws p at h = waits_less p at (without_first r ws) ws (any_first (waits_so at p) r ws) h
 
-pub named-less : (lists : List (List Place)) (ws vs : List Waiting) → ((p : ℕ) (at : Place) → waits_at vs p at → waits_at ws p at)
+pub named_less : (lists : List (List Place)) (ws vs : List Waiting) → ((p : ℕ) (at : Place) → waits_at vs p at → waits_at ws p at)
     → AreNamed lists ws → AreNamed lists vs
-named-less lists ws vs less h p a b x y = h p a b (less p a x) (less p b y)
+named_less lists ws vs less h p a b x y = h p a b (less p a x) (less p b y)
 
 -- ---- who begins to wait
 
@@ -64,16 +64,8 @@ nobody p at (w ∷ ws) h =
     let parts = or_parts (eqb p w.process) (among p ws) h in
     or_from (waits_so at p w) (list_any (waits_so at p) ws) (and_right (stands_in Waiters at w) (eqb p w.process) parts.0) (nobody p at ws parts.1)
 
-or_nil : (b : Bool) → (b || false) ≡ b
-or_nil true = refl
-or_nil false = refl
-
-no-more : (ws : List Waiting) → ws ++ [] ≡ ws
-no-more [] = refl
-no-more (w ∷ ws) = ap (λ vs. w ∷ vs) (no-more ws)
-
 stood : (t : Waiting → Bool) (x : Waiting) (ws : List Waiting) → list_any t (stand x ws) ≡ (t x || list_any t ws)
-stood t x ws = ap (list_any t) (sym (no-more (stand x ws))) ∙ any-stand t x ws [] ∙ ap (λ vs. t x || list_any t vs) (no-more ws)
+stood t x ws = ap (list_any t) (sym (no_more (stand x ws))) ∙ any_stand t x ws [] ∙ ap (λ vs. t x || list_any t vs) (no_more ws)
 
 stood_all : (t : Waiting → Bool) (js ws : List Waiting) → list_any t (stand_all js ws) ≡ (list_any t js || list_any t ws)
 stood_all t [] ws = refl
@@ -87,23 +79,23 @@ stood_all t (j ∷ js) ws =
     moved false false c = refl
 
 -- who waits after one has come is that one, or waited before
-waits-stood : (x : Waiting) (ws : List Waiting) (p : ℕ) (at : Place) → waits_at (stand x ws) p at → (waits_so at p x ≡ true) ⊎ waits_at ws p at
-waits-stood x ws p at h = elim (or_cases (waits_so at p x) (list_any (waits_so at p) ws) (sym (stood (waits_so at p) x ws) ∙ sym (waits-any p at (stand x ws)) ∙ h)) [
+waits_stood : (x : Waiting) (ws : List Waiting) (p : ℕ) (at : Place) → waits_at (stand x ws) p at → (waits_so at p x ≡ true) ⊎ waits_at ws p at
+waits_stood x ws p at h = elim (or_cases (waits_so at p x) (list_any (waits_so at p) ws) (sym (stood (waits_so at p) x ws) ∙ sym (waits_any p at (stand x ws)) ∙ h)) [
   | inl e ↦ inl e
-  | inr e ↦ inr (waits-any p at ws ∙ e)
+  | inr e ↦ inr (waits_any p at ws ∙ e)
 ]
 
-pub named-stand : (lists : List (List Place)) (x : Waiting) (ws : List Waiting) → among x.process ws ≡ false → AreNamed lists ws → AreNamed lists (stand x ws)
-named-stand lists x ws idle h p a b s t = elim (waits-stood x ws p a s) [
+pub named_stand : (lists : List (List Place)) (x : Waiting) (ws : List Waiting) → among x.process ws ≡ false → AreNamed lists ws → AreNamed lists (stand x ws)
+named_stand lists x ws idle h p a b s t = elim (waits_stood x ws p a s) [
   | inl d ↦
       let first = and_parts (stands_in Waiters a x) (eqb p x.process) d in
-      elim (waits-stood x ws p b t) [
+      elim (waits_stood x ws p b t) [
         | inl e ↦
             let second = and_parts (stands_in Waiters b x) (eqb p x.process) e in
-            inl (same_place-self a b (place_of Waiters a x first.0 ∙ sym (place_of Waiters b x second.0)))
+            inl (same_place_self a b (place_of Waiters a x first.0 ∙ sym (place_of Waiters b x second.0)))
         | inr e ↦ absurd (not_idle b first.1 e)
       ]
-  | inr d ↦ elim (waits-stood x ws p b t) [
+  | inr d ↦ elim (waits_stood x ws p b t) [
     | inl e ↦ absurd (not_idle a (and_parts (stands_in Waiters b x) (eqb p x.process) e).1 d)
     | inr e ↦ h p a b d e
   ]
@@ -112,13 +104,13 @@ named-stand lists x ws idle h p a b s t = elim (waits-stood x ws p a s) [
     not_idle : (at : Place) → eqb p x.process ≡ true → waits_at ws p at → ⊥
     not_idle at k w =
         both_ways (list_any (waits_so at x.process) ws) (nobody x.process at ws idle)
-        (ap (λ q. list_any (waits_so at q) ws) (sym (eqb-true p x.process k)) ∙ sym (waits-any p at ws) ∙ w)
+        (ap (λ q. list_any (waits_so at q) ws) (sym (eqb-true p x.process k)) ∙ sym (waits_any p at ws) ∙ w)
 
-pub named-procure : (lists : List (List Place)) (p : ℕ) (at : Place) (ws : List Waiting) → AreNamed lists ws
+pub named_procure : (lists : List (List Place)) (p : ℕ) (at : Place) (ws : List Waiting) → AreNamed lists ws
     → AreNamed lists (stand (record { process = p; place = at; queue = Procurers }) ws)
-named-procure lists p at ws h =
+named_procure lists p at ws h =
     let x : Waiting = record { process = p; place = at; queue = Procurers } in
-    named-less lists ws (stand x ws) (λ q to s. elim (waits-stood x ws q to s) [
+    named_less lists ws (stand x ws) (λ q to s. elim (waits_stood x ws q to s) [
       | inl e ↦ absurd (both_ways (waits_so to q x) (and_left (stands_in Waiters to x) (eqb q p) (and_right (same_place to at) false refl)) e)
       | inr e ↦ e
     ]) h
@@ -137,21 +129,21 @@ joins_these p q at seen (a ∷ ats) h =
           elim (or_cases (waits_so at q (one p a)) (list_any (waits_so at q) rest) (sym (ap (list_any (waits_so at q)) (cond-false b rest (one p a ∷ rest) e)) ∙ h)) [
             | inl k ↦
                 let parts = and_parts (stands_in Waiters at (one p a)) (eqb q p) k in
-                (or_left (same_place a at) (event_is_among ats at) (same_place-self a at (sym (place_of Waiters at (one p a) parts.0))), parts.1)
+                (or_left (same_place a at) (event_is_among ats at) (same_place_self a at (sym (place_of Waiters at (one p a) parts.0))), parts.1)
             | inr k ↦
                 let more = joins_these p q at (seen ++ a ∷ []) ats k in
                 (or_right (same_place a at) (event_is_among ats at) more.0, more.1)
           ]
     ]
 
-pub named-any : (lists : List (List Place)) (p : ℕ) (places : List Place) (ws : List Waiting) → 1 ≤ p → among p ws ≡ false → AreNamed lists ws
+pub named_any : (lists : List (List Place)) (p : ℕ) (places : List Place) (ws : List Waiting) → 1 ≤ p → among p ws ≡ false → AreNamed lists ws
     → AreNamed (with_list lists p places) (stand_all (joiners p [] places) ws)
-named-any lists zero places ws low idle h = absurd (omega (arith, low))
-named-any lists (suc k) places ws low idle h = λ q a b s t.
+named_any lists zero places ws low idle h = absurd (omega (arith, low))
+named_any lists (suc k) places ws low idle h = λ q a b s t.
     let p : ℕ = suc k in
     let js = joiners p [] places in
     let split : (at : Place) → waits_at (stand_all js ws) q at → list_any (waits_so at q) js || list_any (waits_so at q) ws ≡ true = λ at w.
-    sym (stood_all (waits_so at q) js ws) ∙ sym (waits-any q at (stand_all js ws)) ∙ w in
+    sym (stood_all (waits_so at q) js ws) ∙ sym (waits_any q at (stand_all js ws)) ∙ w in
     elim (cases_Bool (eqb q p)) [
       | inl e ↦
           let same : q ≡ p = eqb-true q p e in
@@ -159,28 +151,28 @@ named-any lists (suc k) places ws low idle h = λ q a b s t.
             | inl j ↦ (joins_these p q b [] places j).0
             | inr w ↦ absurd (both_ways (list_any (waits_so b p) ws) (nobody p b ws idle) (ap (λ m. list_any (waits_so b m) ws) (sym same) ∙ w))
           ] in
-          inr (ap (λ m. event_is_among (list_of m (with_list lists p places)) b) same ∙ ap (λ l. event_is_among l b) (list-own lists k places) ∙ here)
+          inr (ap (λ m. event_is_among (list_of m (with_list lists p places)) b) same ∙ ap (λ l. event_is_among l b) (list_own lists k places) ∙ here)
       | inr e ↦
           let other : p ≡ q → ⊥ = λ m. both_ways (eqb q p) e (eq-eqb q p (sym m)) in
           let before : (at : Place) → waits_at (stand_all js ws) q at → waits_at ws q at = λ at w.
           elim (or_cases (list_any (waits_so at q) js) (list_any (waits_so at q) ws) (split at w)) [
             | inl j ↦ absurd (both_ways (eqb q p) e (joins_these p q at [] places j).1)
-            | inr v ↦ waits-any q at ws ∙ v
+            | inr v ↦ waits_any q at ws ∙ v
           ] in
           elim (h q a b (before a s) (before b t)) [
             | inl m ↦ inl m
-            | inr m ↦ inr (ap (λ l. event_is_among l b) (list-other lists p q places other) ∙ m)
+            | inr m ↦ inr (ap (λ l. event_is_among l b) (list_other lists p q places other) ∙ m)
           ]
     ]
 
 -- who joins events that are open is at displacements that a stack has
-pub low-joiners : (fs : List EventEntry) (ws : List Waiting) (p : ℕ) (seen ats : List Place) → AreWithin fs
+pub low_joiners : (fs : List EventEntry) (ws : List Waiting) (p : ℕ) (seen ats : List Place) → AreWithin fs
     → All (λ (a : Place). is_open a (events_of fs ws) ≡ true) ats → AreLow (joiners p seen ats)
-low-joiners fs ws p seen [] within h = tt
-low-joiners fs ws p seen (a ∷ ats) within h =
+low_joiners fs ws p seen [] within h = tt
+low_joiners fs ws p seen (a ∷ ats) within h =
     let b = event_is_among seen a in
     let rest = joiners p (seen ++ a ∷ []) ats in
-    let more = low-joiners fs ws p (seen ++ a ∷ []) ats within (All-tail (λ (q : Place). is_open q (events_of fs ws) ≡ true) a ats h) in
+    let more = low_joiners fs ws p (seen ++ a ∷ []) ats within (All-tail (λ (q : Place). is_open q (events_of fs ws) ≡ true) a ats h) in
     let here : has_flags a fs ≡ true = sym (open-shown a fs ws) ∙ All-head (λ (q : Place). is_open q (events_of fs ws) ≡ true) a ats h in
     elim (cases_Bool b) [
       | inl e ↦ subst AreLow (sym (cond-true b rest (one p a ∷ rest) e)) more
@@ -189,9 +181,9 @@ low-joiners fs ws p seen (a ∷ ats) within h =
 
 -- ---- who is released
 
-none-left : (p : ℕ) (at : Place) (ps : List ℕ) (ws : List Waiting) → waiter_is_one_of ps p ≡ true → list_any (waits_so at p) (filter (stays ps) ws) ≡ false
-none-left p at ps [] h = refl
-none-left p at ps (w ∷ ws) h =
+none_left : (p : ℕ) (at : Place) (ps : List ℕ) (ws : List Waiting) → waiter_is_one_of ps p ≡ true → list_any (waits_so at p) (filter (stays ps) ws) ≡ false
+none_left p at ps [] h = refl
+none_left p at ps (w ∷ ws) h =
     let rest = filter (stays ps) ws in
     elim (cases_Bool (stays ps w)) [
       | inl e ↦
@@ -200,16 +192,16 @@ none-left p at ps (w ∷ ws) h =
           let waiter = (and_parts (same_place at w.place) (same_queue Waiters w.queue) parts.0).1 in
           let one : waiter_is_one_of ps w.process ≡ true = ap (waiter_is_one_of ps) (sym (eqb-true p w.process parts.1)) ∙ h in
           both_ways (stays ps w) (not_from_true (leaves ps w) (and_from (same_queue Waiters w.queue) (waiter_is_one_of ps w.process) waiter one)) e) in
-          ap (list_any (waits_so at p)) (cond-true (stays ps w) (w ∷ rest) rest e) ∙ or_from (waits_so at p w) (list_any (waits_so at p) rest) no (none-left p at ps ws h)
-      | inr e ↦ ap (list_any (waits_so at p)) (cond-false (stays ps w) (w ∷ rest) rest e) ∙ none-left p at ps ws h
+          ap (list_any (waits_so at p)) (cond-true (stays ps w) (w ∷ rest) rest e) ∙ or_from (waits_so at p w) (list_any (waits_so at p) rest) no (none_left p at ps ws h)
+      | inr e ↦ ap (list_any (waits_so at p)) (cond-false (stays ps w) (w ∷ rest) rest e) ∙ none_left p at ps ws h
     ]
 
-pub named-released : (lists : List (List Place)) (ps : List ℕ) (ws : List Waiting) → AreNamed lists ws → AreNamed (unlisted ps lists) (filter (stays ps) ws)
-named-released lists ps ws h p a b s t = elim (cases_Bool (waiter_is_one_of ps p)) [
-  | inl e ↦ absurd (both_ways (list_any (waits_so a p) (filter (stays ps) ws)) (none-left p a ps ws e) (sym (waits-any p a (filter (stays ps) ws)) ∙ s))
+pub named_released : (lists : List (List Place)) (ps : List ℕ) (ws : List Waiting) → AreNamed lists ws → AreNamed (unlisted ps lists) (filter (stays ps) ws)
+named_released lists ps ws h p a b s t = elim (cases_Bool (waiter_is_one_of ps p)) [
+  | inl e ↦ absurd (both_ways (list_any (waits_so a p) (filter (stays ps) ws)) (none_left p a ps ws e) (sym (waits_any p a (filter (stays ps) ws)) ∙ s))
   | inr e ↦
-      let list : list_of p (unlisted ps lists) ≡ list_of p lists = list-unlisted ps lists p ∙ cond-false (waiter_is_one_of ps p) [] (list_of p lists) e in
-      elim (h p a b (waits-filter (stays ps) ws p a s) (waits-filter (stays ps) ws p b t)) [
+      let list : list_of p (unlisted ps lists) ≡ list_of p lists = list_unlisted ps lists p ∙ cond-false (waiter_is_one_of ps p) [] (list_of p lists) e in
+      elim (h p a b (waits_filter (stays ps) ws p a s) (waits_filter (stays ps) ws p b t)) [
         | inl m ↦ inl m
         | inr m ↦ inr (ap (λ l. event_is_among l b) list ∙ m)
       ]
@@ -217,14 +209,14 @@ named-released lists ps ws h p a b s t = elim (cases_Bool (waiter_is_one_of ps p
 
 waits_own : (w : Waiting) (ws : List Waiting) → same_queue Waiters w.queue ≡ true → waits_at (w ∷ ws) w.process w.place
 waits_own w ws h =
-    waits-any w.process w.place (w ∷ ws)
+    waits_any w.process w.place (w ∷ ws)
     ∙ or_left (waits_so w.place w.process w) (list_any (waits_so w.place w.process) ws)
     (and_from (stands_in Waiters w.place w) (eqb w.process w.process)
-    (and_from (same_place w.place w.place) (same_queue Waiters w.queue) (same_place-self w.place w.place refl) h) (eq-eqb w.process w.process refl))
+    (and_from (same_place w.place w.place) (same_queue Waiters w.queue) (same_place_self w.place w.place refl) h) (eq-eqb w.process w.process refl))
 
 waits_tail : (v : Waiting) (ws : List Waiting) (p : ℕ) (at : Place) → waits_at ws p at → waits_at (v ∷ ws) p at
 waits_tail v ws p at h =
-    waits-any p at (v ∷ ws) ∙ or_right (waits_so at p v) (list_any (waits_so at p) ws) (sym (waits-any p at ws) ∙ h)
+    waits_any p at (v ∷ ws) ∙ or_right (waits_so at p v) (list_any (waits_so at p) ws) (sym (waits_any p at ws) ∙ h)
 
 -- of those who are left when an event has let all go, the same leave by their lists as leave all events
 module _ (at : Place) (lists : List (List Place)) (ws : List Waiting) (h : AreNamed lists ws) where
@@ -269,35 +261,35 @@ module _ (at : Place) (lists : List (List Place)) (ws : List Waiting) (h : AreNa
             ∙ sym (ap (filter (stays gone)) in_)
       ]
 
-  pub released-is : filter (λ w. not (is_named gone lists w)) (filter (λ w. not (stands_in Waiters at w)) ws)
+  pub released_is : filter (λ w. not (is_named gone lists w)) (filter (λ w. not (stands_in Waiters at w)) ws)
       ≡ filter (stays gone) (filter (λ w. not (stands_in Waiters at w)) ws)
-  released-is = released_part ws (λ p to k. k)
+  released_is = released_part ws (λ p to k. k)
 
 -- ---- the lists of those who wait for several
 
-pub lists-wider : (ls : List (List Place)) (ws : List Waiting) (n capacity more : ℕ) → PlacesAreListed ls ws n capacity → capacity ≤ more → PlacesAreListed ls ws n more
-lists-wider ls ws n capacity more k wide =
+pub lists_wider : (ls : List (List Place)) (ws : List Waiting) (n capacity more : ℕ) → PlacesAreListed ls ws n capacity → capacity ≤ more → PlacesAreListed ls ws n more
+lists_wider ls ws n capacity more k wide =
     record { room = (let room : n ≤ capacity = k.room in omega (arith, room, wide)); known = k.known; named = k.named }
 
-pub lists-waiting : (ls : List (List Place)) (ws vs : List Waiting) (n capacity : ℕ) → PlacesAreListed ls ws n capacity → AreNamed ls vs → PlacesAreListed ls vs n capacity
-lists-waiting ls ws vs n capacity k named = record { room = k.room; known = k.known; named = named }
+pub lists_waiting : (ls : List (List Place)) (ws vs : List Waiting) (n capacity : ℕ) → PlacesAreListed ls ws n capacity → AreNamed ls vs → PlacesAreListed ls vs n capacity
+lists_waiting ls ws vs n capacity k named = record { room = k.room; known = k.known; named = named }
 
-pub lists-less : (ls : List (List Place)) (ws vs : List Waiting) (n capacity : ℕ) → PlacesAreListed ls ws n capacity
+pub lists_less : (ls : List (List Place)) (ws vs : List Waiting) (n capacity : ℕ) → PlacesAreListed ls ws n capacity
     → ((p : ℕ) (at : Place) → waits_at vs p at → waits_at ws p at) → PlacesAreListed ls vs n capacity
-lists-less ls ws vs n capacity k less = lists-waiting ls ws vs n capacity k (named-less ls ws vs less k.named)
+lists_less ls ws vs n capacity k less = lists_waiting ls ws vs n capacity k (named_less ls ws vs less k.named)
 
-pub lists-with : (ls : List (List Place)) (ws : List Waiting) (n capacity p : ℕ) (places : List Place) → PlacesAreListed ls ws n capacity → 1 ≤ p → p ≤ n
+pub lists_with : (ls : List (List Place)) (ws : List Waiting) (n capacity p : ℕ) (places : List Place) → PlacesAreListed ls ws n capacity → 1 ≤ p → p ≤ n
     → among p ws ≡ false → PlacesAreListed (with_list ls p places) (stand_all (joiners p [] places) ws) n capacity
-lists-with ls ws n capacity p places k low high idle = record {
+lists_with ls ws n capacity p places k low high idle = record {
   room = k.room;
-  known = list-length n ls p places high k.known;
-  named = named-any ls p places ws low idle k.named;
+  known = list_length n ls p places high k.known;
+  named = named_any ls p places ws low idle k.named;
 }
 
-pub lists-without : (ls : List (List Place)) (ws : List Waiting) (n capacity : ℕ) (ps : List ℕ) → PlacesAreListed ls ws n capacity
+pub lists_without : (ls : List (List Place)) (ws : List Waiting) (n capacity : ℕ) (ps : List ℕ) → PlacesAreListed ls ws n capacity
     → PlacesAreListed (unlisted ps ls) (filter (stays ps) ws) n capacity
-lists-without ls ws n capacity ps k = record {
+lists_without ls ws n capacity ps k = record {
   room = k.room;
-  known = (let long = unlisted-length ps ls in let short : length ls ≤ n = k.known in omega (arith, long, short));
-  named = named-released ls ps ws k.named;
+  known = (let long = unlisted_length ps ls in let short : length ls ≤ n = k.known in omega (arith, long, short));
+  named = named_released ls ps ws k.named;
 }

@@ -14,13 +14,13 @@ AreFrom n (p ∷ ps) = (1 ≤ p) × (p ≤ n) × AreFrom n ps
 abbrev pub one_if : Bool → ℕ
 one_if b = cond b 1 0
 
-pub times-join : (p : ℕ) (xs ys : List ℕ) → times_in p (xs ++ ys) ≡ times_in p xs + times_in p ys
-times-join p [] ys = omega arith
-times-join p (x ∷ xs) ys = let rest = times-join p xs ys in omega arith
+pub times_join : (p : ℕ) (xs ys : List ℕ) → times_in p (xs ++ ys) ≡ times_in p xs + times_in p ys
+times_join p [] ys = omega arith
+times_join p (x ∷ xs) ys = let rest = times_join p xs ys in omega arith
 
-pub from-join : (n : ℕ) (xs ys : List ℕ) → AreFrom n xs → AreFrom n ys → AreFrom n (xs ++ ys)
-from-join n [] ys h k = k
-from-join n (x ∷ xs) ys h k = (h.0, h.1, from-join n xs ys h.2 k)
+pub from_join : (n : ℕ) (xs ys : List ℕ) → AreFrom n xs → AreFrom n ys → AreFrom n (xs ++ ys)
+from_join n [] ys h k = k
+from_join n (x ∷ xs) ys h k = (h.0, h.1, from_join n xs ys h.2 k)
 
 -- the others than one
 abbrev others : ℕ → List ℕ → List ℕ
@@ -70,12 +70,12 @@ below n (x ∷ xs) h =
     ]
 
 -- where each of n stands k times_in at most, there are no more than n times_in k
-pub times-bound : (n k : ℕ) (xs : List ℕ) → AreFrom n xs → ((p : ℕ) → times_in p xs ≤ k) → length xs ≤ n * k
-times-bound zero k [] h few = omega arith
-times-bound zero k (x ∷ xs) h few = let low : 1 ≤ x = h.0 in let top : x ≤ 0 = h.1 in absurd (omega arith)
-times-bound (suc n) k xs h few =
+pub times_bound : (n k : ℕ) (xs : List ℕ) → AreFrom n xs → ((p : ℕ) → times_in p xs ≤ k) → length xs ≤ n * k
+times_bound zero k [] h few = omega arith
+times_bound zero k (x ∷ xs) h few = let low : 1 ≤ x = h.0 in let top : x ≤ 0 = h.1 in absurd (omega arith)
+times_bound (suc n) k xs h few =
     let rest : length (others (suc n) xs) ≤ n * k =
-    times-bound n k (others (suc n) xs) (below n xs h) (λ p. let less = fewer (suc n) p xs in let most = few p in omega arith) in
+    times_bound n k (others (suc n) xs) (below n xs h) (λ p. let less = fewer (suc n) p xs in let most = few p in omega arith) in
     let all = parted (suc n) xs in
     let most = few (suc n) in
     omega arith
@@ -85,42 +85,42 @@ abbrev again : ℕ → ℕ → List ℕ
 again zero p = []
 again (suc k) p = p ∷ again k p
 
-again-length : (k p : ℕ) → length (again k p) ≡ k
-again-length zero p = refl
-again-length (suc k) p = let rest = again-length k p in omega arith
+again_length : (k p : ℕ) → length (again k p) ≡ k
+again_length zero p = refl
+again_length (suc k) p = let rest = again_length k p in omega arith
 
-again-from : (n k p : ℕ) → 1 ≤ p → p ≤ n → AreFrom n (again k p)
-again-from n zero p low high = tt
-again-from n (suc k) p low high = (low, high, again-from n k p low high)
+again_from : (n k p : ℕ) → 1 ≤ p → p ≤ n → AreFrom n (again k p)
+again_from n zero p low high = tt
+again_from n (suc k) p low high = (low, high, again_from n k p low high)
 
-again-times : (k p q : ℕ) → times_in q (again k p) ≤ k
-again-times zero p q = omega arith
-again-times (suc k) p q =
-    let rest = again-times k p q in
+again_times : (k p q : ℕ) → times_in q (again k p) ≤ k
+again_times zero p q = omega arith
+again_times (suc k) p q =
+    let rest = again_times k p q in
     elim (cases_Bool (eqb q p)) [
       | inl e ↦ let head : one_if (eqb q p) ≡ 1 = cond-true (eqb q p) 1 0 e in omega arith
       | inr e ↦ let head : one_if (eqb q p) ≡ 0 = cond-false (eqb q p) 1 0 e in omega arith
     ]
 
-again-other : (k p q : ℕ) → eqb q p ≡ false → times_in q (again k p) ≡ 0
-again-other zero p q e = refl
-again-other (suc k) p q e = let rest = again-other k p q e in let head : one_if (eqb q p) ≡ 0 = cond-false (eqb q p) 1 0 e in omega arith
+again_other : (k p q : ℕ) → eqb q p ≡ false → times_in q (again k p) ≡ 0
+again_other zero p q e = refl
+again_other (suc k) p q e = let rest = again_other k p q e in let head : one_if (eqb q p) ≡ 0 = cond-false (eqb q p) 1 0 e in omega arith
 
 -- where one stands not at all, there is room for it k times
-pub times-room : (n k p : ℕ) (xs : List ℕ) → 1 ≤ p → p ≤ n → AreFrom n xs → ((q : ℕ) → times_in q xs ≤ k) → times_in p xs ≡ 0 → length xs + k ≤ n * k
-times-room n k p xs low high h few none =
+pub times_room : (n k p : ℕ) (xs : List ℕ) → 1 ≤ p → p ≤ n → AreFrom n xs → ((q : ℕ) → times_in q xs ≤ k) → times_in p xs ≡ 0 → length xs + k ≤ n * k
+times_room n k p xs low high h few none =
     let all = xs ++ again k p in
     let each : (q : ℕ) → times_in q all ≤ k = λ q.
-    let both = times-join q xs (again k p) in
+    let both = times_join q xs (again k p) in
     elim (cases_Bool (eqb q p)) [
       | inl e ↦
           let same : times_in q xs ≡ 0 = ap (λ m. times_in m xs) (eqb-true q p e) ∙ none in
-          let most = again-times k p q in omega arith
-      | inr e ↦ let other = again-other k p q e in let most = few q in omega arith
+          let most = again_times k p q in omega arith
+      | inr e ↦ let other = again_other k p q e in let most = few q in omega arith
     ] in
-    let bound = times-bound n k all (from-join n xs (again k p) h (again-from n k p low high)) each in
+    let bound = times_bound n k all (from_join n xs (again k p) h (again_from n k p low high)) each in
     let long : length all ≡ length xs + length (again k p) = length-join xs (again k p) in
-    let count = again-length k p in
+    let count = again_length k p in
     omega arith
   where
     length-join : (xs ys : List ℕ) → length (xs ++ ys) ≡ length xs + length ys
@@ -129,36 +129,27 @@ times-room n k p xs low high h few none =
 
 module _ {X : Type 0} (number : X → ℕ) where
   -- who is not among them stands there not at all
-  pub times-none : (p : ℕ) (xs : List X) → list_any (λ x. eqb p (number x)) xs ≡ false → times_in p (map number xs) ≡ 0
-  times-none p [] h = refl
-  times-none p (x ∷ xs) h =
+  pub times_none : (p : ℕ) (xs : List X) → list_any (λ x. eqb p (number x)) xs ≡ false → times_in p (map number xs) ≡ 0
+  times_none p [] h = refl
+  times_none p (x ∷ xs) h =
       let parts = or_parts (eqb p (number x)) (list_any (λ y. eqb p (number y)) xs) h in
-      let rest = times-none p xs parts.1 in
+      let rest = times_none p xs parts.1 in
       let head : one_if (eqb p (number x)) ≡ 0 = cond-false (eqb p (number x)) 1 0 parts.0 in omega arith
 
-  pub times-filter : (p : ℕ) (r : X → Bool) (xs : List X) → times_in p (map number (filter r xs)) ≤ times_in p (map number xs)
-  times-filter p r [] = omega arith
-  times-filter p r (x ∷ xs) =
-      let rest = times-filter p r xs in
+  pub times_filter : (p : ℕ) (r : X → Bool) (xs : List X) → times_in p (map number (filter r xs)) ≤ times_in p (map number xs)
+  times_filter p r [] = omega arith
+  times_filter p r (x ∷ xs) =
+      let rest = times_filter p r xs in
       elim (cases_Bool (r x)) [
         | inl e ↦ let is : times_in p (map number (filter r (x ∷ xs))) ≡ times_in p (map number (x ∷ filter r xs)) = ap (λ ys. times_in p (map number ys)) (cond-true (r x) (x ∷ filter r xs) (filter r xs) e) in omega arith
         | inr e ↦ let is : times_in p (map number (filter r (x ∷ xs))) ≡ times_in p (map number (filter r xs)) = ap (λ ys. times_in p (map number ys)) (cond-false (r x) (x ∷ filter r xs) (filter r xs) e) in omega arith
       ]
 
-  pub times-first : (p : ℕ) (r : X → Bool) (xs : List X) → times_in p (map number (without_first r xs)) ≤ times_in p (map number xs)
-  times-first p r [] = omega arith
-  times-first p r (x ∷ xs) =
-      let rest = times-first p r xs in
+  pub times_first : (p : ℕ) (r : X → Bool) (xs : List X) → times_in p (map number (without_first r xs)) ≤ times_in p (map number xs)
+  times_first p r [] = omega arith
+  times_first p r (x ∷ xs) =
+      let rest = times_first p r xs in
       elim (cases_Bool (r x)) [
         | inl e ↦ let is : times_in p (map number (without_first r (x ∷ xs))) ≡ times_in p (map number xs) = ap (λ ys. times_in p (map number ys)) (cond-true (r x) xs (x ∷ without_first r xs) e) in omega arith
         | inr e ↦ let is : times_in p (map number (without_first r (x ∷ xs))) ≡ times_in p (map number (x ∷ without_first r xs)) = ap (λ ys. times_in p (map number ys)) (cond-false (r x) xs (x ∷ without_first r xs) e) in omega arith
-      ]
-
-  pub from-filter : (n : ℕ) (r : X → Bool) (xs : List X) → AreFrom n (map number xs) → AreFrom n (map number (filter r xs))
-  from-filter n r [] h = tt
-  from-filter n r (x ∷ xs) h =
-      let rest = from-filter n r xs h.2 in
-      elim (cases_Bool (r x)) [
-        | inl e ↦ subst (λ ys. AreFrom n (map number ys)) (sym (cond-true (r x) (x ∷ filter r xs) (filter r xs) e)) (h.0, h.1, rest)
-        | inr e ↦ subst (λ ys. AreFrom n (map number ys)) (sym (cond-false (r x) (x ∷ filter r xs) (filter r xs) e)) rest
       ]

@@ -12,7 +12,7 @@ use Rattle.b67_events.specs.Kept.{same_queue, stands_in, without_first, rank_in,
 use Rattle.b67_events.specs.declared.Queue.{Queue}
 use Rattle.b67_events.specs.declared.Queue.TheVariants.{Waiters, Procurers}
 use Rattle.b67_events.specs.declared.Waiting.{Waiting}
-use Rattle.b67_events.proofs.Listed.{same_place-true, place_of, append-none}
+use Rattle.b67_events.proofs.Listed.{same_place_true, place_of, append_none}
 
 -- ---- ranks
 
@@ -60,65 +60,65 @@ stands_not queue at w h = false_from_ne_true (stands_in queue at w) (λ k. h (ra
 abbrev pub from_rank : ℕ → List Waiting → Type 0
 from_rank r ws = AllByRecursion (λ v. r ≤ rank_of v) ws
 
-pub rank-more : (r s : ℕ) → r ≤ s → (ws : List Waiting) → from_rank s ws → from_rank r ws
-rank-more r s le [] h = tt
-rank-more r s le (w ∷ ws) h = let here : s ≤ rank_of w = h.0 in (omega (arith, le, here), rank-more r s le ws h.1)
+pub rank_more : (r s : ℕ) → r ≤ s → (ws : List Waiting) → from_rank s ws → from_rank r ws
+rank_more r s le [] h = tt
+rank_more r s le (w ∷ ws) h = let here : s ≤ rank_of w = h.0 in (omega (arith, le, here), rank_more r s le ws h.1)
 
-from-filter : (r : ℕ) (t : Waiting → Bool) (ws : List Waiting) → from_rank r ws → from_rank r (filter t ws)
-from-filter r t [] h = tt
-from-filter r t (w ∷ ws) h = elim (cases_Bool (t w)) [
-  | inl e ↦ subst (from_rank r) (sym (cond-true (t w) (w ∷ filter t ws) (filter t ws) e)) (h.0, from-filter r t ws h.1)
-  | inr e ↦ subst (from_rank r) (sym (cond-false (t w) (w ∷ filter t ws) (filter t ws) e)) (from-filter r t ws h.1)
+from_filter : (r : ℕ) (t : Waiting → Bool) (ws : List Waiting) → from_rank r ws → from_rank r (filter t ws)
+from_filter r t [] h = tt
+from_filter r t (w ∷ ws) h = elim (cases_Bool (t w)) [
+  | inl e ↦ subst (from_rank r) (sym (cond-true (t w) (w ∷ filter t ws) (filter t ws) e)) (h.0, from_filter r t ws h.1)
+  | inr e ↦ subst (from_rank r) (sym (cond-false (t w) (w ∷ filter t ws) (filter t ws) e)) (from_filter r t ws h.1)
 ]
 
-pub order-filter : (t : Waiting → Bool) (ws : List Waiting) → AreInOrder ws → AreInOrder (filter t ws)
-order-filter t [] h = tt
-order-filter t (w ∷ ws) h = elim (cases_Bool (t w)) [
-  | inl e ↦ subst AreInOrder (sym (cond-true (t w) (w ∷ filter t ws) (filter t ws) e)) (h.0, from-filter (rank_of w) t ws h.1, order-filter t ws h.2)
-  | inr e ↦ subst AreInOrder (sym (cond-false (t w) (w ∷ filter t ws) (filter t ws) e)) (order-filter t ws h.2)
+pub order_filter : (t : Waiting → Bool) (ws : List Waiting) → AreInOrder ws → AreInOrder (filter t ws)
+order_filter t [] h = tt
+order_filter t (w ∷ ws) h = elim (cases_Bool (t w)) [
+  | inl e ↦ subst AreInOrder (sym (cond-true (t w) (w ∷ filter t ws) (filter t ws) e)) (h.0, from_filter (rank_of w) t ws h.1, order_filter t ws h.2)
+  | inr e ↦ subst AreInOrder (sym (cond-false (t w) (w ∷ filter t ws) (filter t ws) e)) (order_filter t ws h.2)
 ]
 
-from-first : (r : ℕ) (t : Waiting → Bool) (ws : List Waiting) → from_rank r ws → from_rank r (without_first t ws)
-from-first r t [] h = tt
-from-first r t (w ∷ ws) h = elim (cases_Bool (t w)) [
+from_first : (r : ℕ) (t : Waiting → Bool) (ws : List Waiting) → from_rank r ws → from_rank r (without_first t ws)
+from_first r t [] h = tt
+from_first r t (w ∷ ws) h = elim (cases_Bool (t w)) [
   | inl e ↦ subst (from_rank r) (sym (cond-true (t w) ws (w ∷ without_first t ws) e)) h.1
-  | inr e ↦ subst (from_rank r) (sym (cond-false (t w) ws (w ∷ without_first t ws) e)) (h.0, from-first r t ws h.1)
+  | inr e ↦ subst (from_rank r) (sym (cond-false (t w) ws (w ∷ without_first t ws) e)) (h.0, from_first r t ws h.1)
 ]
 
-pub order-first : (t : Waiting → Bool) (ws : List Waiting) → AreInOrder ws → AreInOrder (without_first t ws)
-order-first t [] h = tt
-order-first t (w ∷ ws) h = elim (cases_Bool (t w)) [
+pub order_first : (t : Waiting → Bool) (ws : List Waiting) → AreInOrder ws → AreInOrder (without_first t ws)
+order_first t [] h = tt
+order_first t (w ∷ ws) h = elim (cases_Bool (t w)) [
   | inl e ↦ subst AreInOrder (sym (cond-true (t w) ws (w ∷ without_first t ws) e)) h.2
-  | inr e ↦ subst AreInOrder (sym (cond-false (t w) ws (w ∷ without_first t ws) e)) (h.0, from-first (rank_of w) t ws h.1, order-first t ws h.2)
+  | inr e ↦ subst AreInOrder (sym (cond-false (t w) ws (w ∷ without_first t ws) e)) (h.0, from_first (rank_of w) t ws h.1, order_first t ws h.2)
 ]
 
-from-stand : (r : ℕ) (one : Waiting) (ws : List Waiting) → r ≤ rank_of one → from_rank r ws → from_rank r (stand one ws)
-from-stand r one [] k h = (k, tt)
-from-stand r one (w ∷ ws) k h =
+from_stand : (r : ℕ) (one : Waiting) (ws : List Waiting) → r ≤ rank_of one → from_rank r ws → from_rank r (stand one ws)
+from_stand r one [] k h = (k, tt)
+from_stand r one (w ∷ ws) k h =
     let b = ltb (rank_of one) (rank_of w) in
     elim (cases_Bool b) [
       | inl e ↦ subst (from_rank r) (sym (cond-true b (one ∷ w ∷ ws) (w ∷ stand one ws) e)) (k, h)
-      | inr e ↦ subst (from_rank r) (sym (cond-false b (one ∷ w ∷ ws) (w ∷ stand one ws) e)) (h.0, from-stand r one ws k h.1)
+      | inr e ↦ subst (from_rank r) (sym (cond-false b (one ∷ w ∷ ws) (w ∷ stand one ws) e)) (h.0, from_stand r one ws k h.1)
     ]
 
-pub order-stand : (one : Waiting) (ws : List Waiting) → one.place.at < 65536 → AreInOrder ws → AreInOrder (stand one ws)
-order-stand one [] low h = (low, tt, tt)
-order-stand one (w ∷ ws) low h =
+pub order_stand : (one : Waiting) (ws : List Waiting) → one.place.at < 65536 → AreInOrder ws → AreInOrder (stand one ws)
+order_stand one [] low h = (low, tt, tt)
+order_stand one (w ∷ ws) low h =
     let b = ltb (rank_of one) (rank_of w) in
     elim (cases_Bool b) [
       | inl e ↦
           let less = ltb-true (rank_of one) (rank_of w) e in
           let le : rank_of one ≤ rank_of w = omega (arith, less) in
-          subst AreInOrder (sym (cond-true b (one ∷ w ∷ ws) (w ∷ stand one ws) e)) (low, (le, rank-more (rank_of one) (rank_of w) le ws h.1), h)
+          subst AreInOrder (sym (cond-true b (one ∷ w ∷ ws) (w ∷ stand one ws) e)) (low, (le, rank_more (rank_of one) (rank_of w) le ws h.1), h)
       | inr e ↦
           subst AreInOrder (sym (cond-false b (one ∷ w ∷ ws) (w ∷ stand one ws) e))
-          (h.0, from-stand (rank_of w) one ws (ltb-false (rank_of one) (rank_of w) e) h.1, order-stand one ws low h.2)
+          (h.0, from_stand (rank_of w) one ws (ltb-false (rank_of one) (rank_of w) e) h.1, order_stand one ws low h.2)
     ]
 
-pub order-drop : (i : ℕ) (ws : List Waiting) → AreInOrder ws → AreInOrder (drop i ws)
-order-drop zero ws h = h
-order-drop (suc i) [] h = tt
-order-drop (suc i) (w ∷ ws) h = order-drop i ws h.2
+pub order_drop : (i : ℕ) (ws : List Waiting) → AreInOrder ws → AreInOrder (drop i ws)
+order_drop zero ws h = h
+order_drop (suc i) [] h = tt
+order_drop (suc i) (w ∷ ws) h = order_drop i ws h.2
 
 -- who stands at a position has no higher rank than who comes after
 pub at_least : (r : ℕ) (ws : List Waiting) (j : ℕ) (d : Waiting) → from_rank r ws → j < length ws → r ≤ rank_of (get_or ws j d)
@@ -135,44 +135,44 @@ rising (w ∷ ws) h (suc i) (suc j) d le less = rising ws h.2 i j d (omega (arit
 
 -- ---- how many stand below a rank
 
-pub below-yes : (r : ℕ) (w : Waiting) (ws : List Waiting) → rank_of w < r → below r (w ∷ ws) ≡ suc (below r ws)
-below-yes r w ws h = cond-true (ltb (rank_of w) r) (suc (below r ws)) 0 (lt-ltb (rank_of w) r h)
+pub below_yes : (r : ℕ) (w : Waiting) (ws : List Waiting) → rank_of w < r → below r (w ∷ ws) ≡ suc (below r ws)
+below_yes r w ws h = cond-true (ltb (rank_of w) r) (suc (below r ws)) 0 (lt-ltb (rank_of w) r h)
 
-pub below-no : (r : ℕ) (w : Waiting) (ws : List Waiting) → r ≤ rank_of w → below r (w ∷ ws) ≡ 0
-below-no r w ws h = cond-false (ltb (rank_of w) r) (suc (below r ws)) 0 (le-ltb (rank_of w) r h)
+pub below_no : (r : ℕ) (w : Waiting) (ws : List Waiting) → r ≤ rank_of w → below r (w ∷ ws) ≡ 0
+below_no r w ws h = cond-false (ltb (rank_of w) r) (suc (below r ws)) 0 (le-ltb (rank_of w) r h)
 
 abbrev IsPoint : ℕ → List Waiting → ℕ → Type 0
 IsPoint r ws i = IsPartitionPoint (λ y. ltb (rank_of y) r ≡ true) (λ y. ltb (rank_of y) r ≡ false) ws i
 
-pub below-point : (r : ℕ) (ws : List Waiting) (i : ℕ) → i ≤ length ws → IsPoint r ws i → i ≡ below r ws
-below-point r [] zero le h = refl
-below-point r [] (suc i) le h = absurd (omega (arith, le))
-below-point r (w ∷ ws) zero le h = sym (below-no r w ws (ltb-false (rank_of w) r (h.1 zero w (omega arith) (omega arith))))
-below-point r (w ∷ ws) (suc i) le h =
+pub below_point : (r : ℕ) (ws : List Waiting) (i : ℕ) → i ≤ length ws → IsPoint r ws i → i ≡ below r ws
+below_point r [] zero le h = refl
+below_point r [] (suc i) le h = absurd (omega (arith, le))
+below_point r (w ∷ ws) zero le h = sym (below_no r w ws (ltb-false (rank_of w) r (h.1 zero w (omega arith) (omega arith))))
+below_point r (w ∷ ws) (suc i) le h =
     let here = ltb-true (rank_of w) r (h.0 zero w (omega arith) (omega arith)) in
-    let rest = below-point r ws i (omega (arith, le)) (λ k d a b. h.0 (suc k) d (omega (arith, a)) (omega (arith, b)), λ k d a b. h.1 (suc k) d (omega (arith, a)) (omega (arith, b))) in
-    ap suc rest ∙ sym (below-yes r w ws here)
+    let rest = below_point r ws i (omega (arith, le)) (λ k d a b. h.0 (suc k) d (omega (arith, a)) (omega (arith, b)), λ k d a b. h.1 (suc k) d (omega (arith, a)) (omega (arith, b))) in
+    ap suc rest ∙ sym (below_yes r w ws here)
 
-pub below-within : (r : ℕ) (ws : List Waiting) → below r ws ≤ length ws
-below-within r [] = omega arith
-below-within r (w ∷ ws) = elim (cases_Bool (ltb (rank_of w) r)) [
-  | inl e ↦ let is = below-yes r w ws (ltb-true (rank_of w) r e) in let rest = below-within r ws in omega (arith, is, rest)
-  | inr e ↦ let is = below-no r w ws (ltb-false (rank_of w) r e) in omega (arith, is)
+pub below_within : (r : ℕ) (ws : List Waiting) → below r ws ≤ length ws
+below_within r [] = omega arith
+below_within r (w ∷ ws) = elim (cases_Bool (ltb (rank_of w) r)) [
+  | inl e ↦ let is = below_yes r w ws (ltb-true (rank_of w) r e) in let rest = below_within r ws in omega (arith, is, rest)
+  | inr e ↦ let is = below_no r w ws (ltb-false (rank_of w) r e) in omega (arith, is)
 ]
 
 -- those below a rank are those below a lower one, and then more
-pub below-more : (f r : ℕ) (ws : List Waiting) → f ≤ r → below f ws + below r (drop (below f ws) ws) ≡ below r ws
-below-more f r [] le = refl
-below-more f r (w ∷ ws) le = elim (cases_Bool (ltb (rank_of w) f)) [
+pub below_more : (f r : ℕ) (ws : List Waiting) → f ≤ r → below f ws + below r (drop (below f ws) ws) ≡ below r ws
+below_more f r [] le = refl
+below_more f r (w ∷ ws) le = elim (cases_Bool (ltb (rank_of w) f)) [
   | inl e ↦
       let less = ltb-true (rank_of w) f e in
-      let is = below-yes f w ws less in
-      let rest = below-more f r ws le in
-      let more = below-yes r w ws (omega (arith, less, le)) in
+      let is = below_yes f w ws less in
+      let rest = below_more f r ws le in
+      let more = below_yes r w ws (omega (arith, less, le)) in
       let there : below r (drop (below f (w ∷ ws)) (w ∷ ws)) ≡ below r (drop (below f ws) ws) = ap (λ i. below r (drop i (w ∷ ws))) is in
       omega (arith, is, rest, more, there)
   | inr e ↦
-      let none = below-no f w ws (ltb-false (rank_of w) f e) in
+      let none = below_no f w ws (ltb-false (rank_of w) f e) in
       let there : below r (drop (below f (w ∷ ws)) (w ∷ ws)) ≡ below r (w ∷ ws) = ap (λ i. below r (drop i (w ∷ ws))) none in
       omega (arith, none, there)
 ]
@@ -181,31 +181,25 @@ module _ (r i : ℕ) (ws : List Waiting) (x : Waiting) (short : i < length ws) (
   pub next_is : drop i ws ≡ x ∷ drop (i + 1) ws
   next_is = drop_more ws i x short ∙ ap (λ y. y ∷ drop (i + 1) ws) (sym is)
 
-  pub below-next : rank_of x < r → i + below r (drop i ws) ≡ i + 1 + below r (drop (i + 1) ws)
-  below-next h = let one = ap (below r) next_is ∙ below-yes r x (drop (i + 1) ws) h in omega (arith, one)
-
-  pub below-last : r ≤ rank_of x → i + below r (drop i ws) ≡ i
-  below-last h = let one = ap (below r) next_is ∙ below-no r x (drop (i + 1) ws) h in omega (arith, one)
-
-pub below-past : (r i : ℕ) (ws : List Waiting) → length ws ≤ i → below r (drop i ws) ≡ 0
-below-past r zero [] h = refl
-below-past r (suc i) [] h = refl
-below-past r zero (w ∷ ws) h = absurd (omega (arith, h))
-below-past r (suc i) (w ∷ ws) h = below-past r i ws (omega (arith, h))
+pub below_past : (r i : ℕ) (ws : List Waiting) → length ws ≤ i → below r (drop i ws) ≡ 0
+below_past r zero [] h = refl
+below_past r (suc i) [] h = refl
+below_past r zero (w ∷ ws) h = absurd (omega (arith, h))
+below_past r (suc i) (w ∷ ws) h = below_past r i ws (omega (arith, h))
 
 -- from there on nobody stands below the rank
-pub below-rest : (r i : ℕ) (ws : List Waiting) → AreInOrder ws → below r ws ≤ i → from_rank r (drop i ws)
-below-rest r zero [] h le = tt
-below-rest r (suc i) [] h le = tt
-below-rest r zero (w ∷ ws) h le =
+pub below_rest : (r i : ℕ) (ws : List Waiting) → AreInOrder ws → below r ws ≤ i → from_rank r (drop i ws)
+below_rest r zero [] h le = tt
+below_rest r (suc i) [] h le = tt
+below_rest r zero (w ∷ ws) h le =
     let high : r ≤ rank_of w = elim (cases_Bool (ltb (rank_of w) r)) [
-      | inl e ↦ let is = below-yes r w ws (ltb-true (rank_of w) r e) in absurd (omega (arith, is, le))
+      | inl e ↦ let is = below_yes r w ws (ltb-true (rank_of w) r e) in absurd (omega (arith, is, le))
       | inr e ↦ ltb-false (rank_of w) r e
     ] in
-    (high, rank-more r (rank_of w) high ws h.1)
-below-rest r (suc i) (w ∷ ws) h le = elim (cases_Bool (ltb (rank_of w) r)) [
-  | inl e ↦ let is = below-yes r w ws (ltb-true (rank_of w) r e) in below-rest r i ws h.2 (omega (arith, is, le))
-  | inr e ↦ let high = ltb-false (rank_of w) r e in from-drop r i ws (rank-more r (rank_of w) high ws h.1)
+    (high, rank_more r (rank_of w) high ws h.1)
+below_rest r (suc i) (w ∷ ws) h le = elim (cases_Bool (ltb (rank_of w) r)) [
+  | inl e ↦ let is = below_yes r w ws (ltb-true (rank_of w) r e) in below_rest r i ws h.2 (omega (arith, is, le))
+  | inr e ↦ let high = ltb-false (rank_of w) r e in from-drop r i ws (rank_more r (rank_of w) high ws h.1)
 ]
   where
     from-drop : (r i : ℕ) (ws : List Waiting) → from_rank r ws → from_rank r (drop i ws)
@@ -215,18 +209,18 @@ below-rest r (suc i) (w ∷ ws) h le = elim (cases_Bool (ltb (rank_of w) r)) [
 
 -- ---- one who is put at its place
 
-pub insert-stand : (one : Waiting) (ws : List Waiting) → insert ws (below (rank_of one + 1) ws) one ≡ stand one ws
-insert-stand one [] = refl
-insert-stand one (w ∷ ws) =
+pub insert_stand : (one : Waiting) (ws : List Waiting) → insert ws (below (rank_of one + 1) ws) one ≡ stand one ws
+insert_stand one [] = refl
+insert_stand one (w ∷ ws) =
     let b = ltb (rank_of one) (rank_of w) in
     let r = rank_of one + 1 in
     elim (cases_Bool b) [
       | inl e ↦
           let less = ltb-true (rank_of one) (rank_of w) e in
-          ap (λ i. insert (w ∷ ws) i one) (below-no r w ws (omega (arith, less))) ∙ sym (cond-true b (one ∷ w ∷ ws) (w ∷ stand one ws) e)
+          ap (λ i. insert (w ∷ ws) i one) (below_no r w ws (omega (arith, less))) ∙ sym (cond-true b (one ∷ w ∷ ws) (w ∷ stand one ws) e)
       | inr e ↦
           let le = ltb-false (rank_of one) (rank_of w) e in
-          ap (λ i. insert (w ∷ ws) i one) (below-yes r w ws (omega (arith, le))) ∙ ap (λ vs. w ∷ vs) (insert-stand one ws)
+          ap (λ i. insert (w ∷ ws) i one) (below_yes r w ws (omega (arith, le))) ∙ ap (λ vs. w ∷ vs) (insert_stand one ws)
           ∙ sym (cond-false b (one ∷ w ∷ ws) (w ∷ stand one ws) e)
     ]
 
@@ -239,10 +233,10 @@ none_higher queue at (w ∷ ws) h =
     ∙ none_higher queue at ws h.1
 
 -- each list is as if it came after all
-pub stand-listed : (queue : Queue) (at : Place) (one : Waiting) (ws : List Waiting) → AreInOrder ws
+pub stand_listed : (queue : Queue) (at : Place) (one : Waiting) (ws : List Waiting) → AreInOrder ws
     → filter (stands_in queue at) (stand one ws) ≡ filter (stands_in queue at) (ws ++ one ∷ [])
-stand-listed queue at one [] h = refl
-stand-listed queue at one (w ∷ ws) h =
+stand_listed queue at one [] h = refl
+stand_listed queue at one (w ∷ ws) h =
     let b = ltb (rank_of one) (rank_of w) in
     let t = stands_in queue at in
     elim (cases_Bool b) [
@@ -253,52 +247,52 @@ stand-listed queue at one (w ∷ ws) h =
             | inl k ↦
                 let same = rank_by_stand queue at one k in
                 let high : rank_at queue at + 1 ≤ rank_of w = omega (arith, less, same) in
-                let none : filter t (w ∷ ws) ≡ [] = none_higher queue at (w ∷ ws) (high, rank-more (rank_at queue at + 1) (rank_of w) high ws h.1) in
+                let none : filter t (w ∷ ws) ≡ [] = none_higher queue at (w ∷ ws) (high, rank_more (rank_at queue at + 1) (rank_of w) high ws h.1) in
                 cond-true (t one) (one ∷ filter t (w ∷ ws)) (filter t (w ∷ ws)) k ∙ ap (λ vs. one ∷ vs) none
                 ∙ sym (filter-append t (w ∷ ws) (one ∷ []) ∙ ap (λ vs. vs ++ filter t (one ∷ [])) none ∙ cond-true (t one) (one ∷ []) [] k)
             | inr k ↦
                 cond-false (t one) (one ∷ filter t (w ∷ ws)) (filter t (w ∷ ws)) k
-                ∙ sym (filter-append t (w ∷ ws) (one ∷ []) ∙ ap (λ vs. filter t (w ∷ ws) ++ vs) (cond-false (t one) (one ∷ []) [] k) ∙ append-none (filter t (w ∷ ws)))
+                ∙ sym (filter-append t (w ∷ ws) (one ∷ []) ∙ ap (λ vs. filter t (w ∷ ws) ++ vs) (cond-false (t one) (one ∷ []) [] k) ∙ append_none (filter t (w ∷ ws)))
           ]
       | inr e ↦
-          ap (filter t) (cond-false b (one ∷ w ∷ ws) (w ∷ stand one ws) e) ∙ ap (λ vs. cond (t w) (w ∷ vs) vs) (stand-listed queue at one ws h.2)
+          ap (filter t) (cond-false b (one ∷ w ∷ ws) (w ∷ stand one ws) e) ∙ ap (λ vs. cond (t w) (w ∷ vs) vs) (stand_listed queue at one ws h.2)
     ]
 
 -- ---- the list of an event, found by its rank
 
 -- nobody before its rank stands in it
-pub listed-from : (queue : Queue) (at : Place) (ws : List Waiting)
+pub listed_from : (queue : Queue) (at : Place) (ws : List Waiting)
     → filter (stands_in queue at) (drop (below (rank_at queue at) ws) ws) ≡ filter (stands_in queue at) ws
-listed-from queue at [] = refl
-listed-from queue at (w ∷ ws) =
+listed_from queue at [] = refl
+listed_from queue at (w ∷ ws) =
     let r = rank_at queue at in
     let t = stands_in queue at in
     elim (cases_Bool (ltb (rank_of w) r)) [
       | inl e ↦
           let less = ltb-true (rank_of w) r e in
-          ap (λ i. filter t (drop i (w ∷ ws))) (below-yes r w ws less) ∙ listed-from queue at ws
+          ap (λ i. filter t (drop i (w ∷ ws))) (below_yes r w ws less) ∙ listed_from queue at ws
           ∙ sym (cond-false (t w) (w ∷ filter t ws) (filter t ws) (stands_not queue at w (λ k. omega (arith, less, k))))
-      | inr e ↦ ap (λ i. filter t (drop i (w ∷ ws))) (below-no r w ws (ltb-false (rank_of w) r e))
+      | inr e ↦ ap (λ i. filter t (drop i (w ∷ ws))) (below_no r w ws (ltb-false (rank_of w) r e))
     ]
 
-pub first-from : (u : Waiting → Bool) (r : ℕ) → ((w : Waiting) → u w ≡ true → rank_of w ≡ r) → (ws : List Waiting)
+pub first_from : (u : Waiting → Bool) (r : ℕ) → ((w : Waiting) → u w ≡ true → rank_of w ≡ r) → (ws : List Waiting)
     → without_first u ws ≡ take (below r ws) ws ++ without_first u (drop (below r ws) ws)
-first-from u r ranked [] = refl
-first-from u r ranked (w ∷ ws) = elim (cases_Bool (ltb (rank_of w) r)) [
+first_from u r ranked [] = refl
+first_from u r ranked (w ∷ ws) = elim (cases_Bool (ltb (rank_of w) r)) [
   | inl e ↦
       let less = ltb-true (rank_of w) r e in
       let no : u w ≡ false = false_from_ne_true (u w) (λ k. let same = ranked w k in omega (arith, less, same)) in
-      cond-false (u w) ws (w ∷ without_first u ws) no ∙ ap (λ vs. w ∷ vs) (first-from u r ranked ws)
-      ∙ sym (ap (λ i. take i (w ∷ ws) ++ without_first u (drop i (w ∷ ws))) (below-yes r w ws less))
-  | inr e ↦ sym (ap (λ i. take i (w ∷ ws) ++ without_first u (drop i (w ∷ ws))) (below-no r w ws (ltb-false (rank_of w) r e)))
+      cond-false (u w) ws (w ∷ without_first u ws) no ∙ ap (λ vs. w ∷ vs) (first_from u r ranked ws)
+      ∙ sym (ap (λ i. take i (w ∷ ws) ++ without_first u (drop i (w ∷ ws))) (below_yes r w ws less))
+  | inr e ↦ sym (ap (λ i. take i (w ∷ ws) ++ without_first u (drop i (w ∷ ws))) (below_no r w ws (ltb-false (rank_of w) r e)))
 ]
 
-pub none-first : (u : Waiting → Bool) (r : ℕ) → ((w : Waiting) → u w ≡ true → rank_of w ≡ r) → (ws : List Waiting) → from_rank (r + 1) ws → without_first u ws ≡ ws
-none-first u r ranked [] h = refl
-none-first u r ranked (w ∷ ws) h =
+pub none_first : (u : Waiting → Bool) (r : ℕ) → ((w : Waiting) → u w ≡ true → rank_of w ≡ r) → (ws : List Waiting) → from_rank (r + 1) ws → without_first u ws ≡ ws
+none_first u r ranked [] h = refl
+none_first u r ranked (w ∷ ws) h =
     let high : r + 1 ≤ rank_of w = h.0 in
     cond-false (u w) ws (w ∷ without_first u ws) (false_from_ne_true (u w) (λ k. let same = ranked w k in omega (arith, high, same)))
-    ∙ ap (λ vs. w ∷ vs) (none-first u r ranked ws h.1)
+    ∙ ap (λ vs. w ∷ vs) (none_first u r ranked ws h.1)
 
 -- where one who stands at its rank or above does not stand in it, nobody does from there on
 pub none_from : (queue : Queue) (at : Place) (i : ℕ) (ws : List Waiting) (x : Waiting) → at.at < 65536 → AreInOrder ws → below (rank_at queue at) ws ≤ i
@@ -306,67 +300,67 @@ pub none_from : (queue : Queue) (at : Place) (i : ℕ) (ws : List Waiting) (x : 
 none_from queue at i ws x low h from short is out =
     let r = rank_at queue at in
     let here : drop i ws ≡ x ∷ drop (i + 1) ws = next_is r i ws x short is in
-    let high : from_rank r (x ∷ drop (i + 1) ws) = subst (from_rank r) here (below-rest r i ws h from) in
-    let order : AreInOrder (x ∷ drop (i + 1) ws) = subst AreInOrder here (order-drop i ws h) in
+    let high : from_rank r (x ∷ drop (i + 1) ws) = subst (from_rank r) here (below_rest r i ws h from) in
+    let order : AreInOrder (x ∷ drop (i + 1) ws) = subst AreInOrder here (order_drop i ws h) in
     let least : r ≤ rank_of x = high.0 in
     let other : rank_of x ≡ r → ⊥ = λ e. both_ways (stands_in queue at x) out (stands_by_rank queue at x low order.0 e) in
     let more : r + 1 ≤ rank_of x = omega (arith, least, other) in
-    subst (from_rank (r + 1)) (sym here) (more, rank-more (r + 1) (rank_of x) more (drop (i + 1) ws) order.1)
+    subst (from_rank (r + 1)) (sym here) (more, rank_more (r + 1) (rank_of x) more (drop (i + 1) ws) order.1)
 
 -- ---- those between two ranks
 
-kept-low : (f r : ℕ) (w : Waiting) → rank_of w < f → not (is_ranked f r w) ≡ true
-kept-low f r w h = not_from_false (is_ranked f r w) (and_left (leb f (rank_of w)) (ltb (rank_of w) r) (lt-leb f (rank_of w) h))
+kept_low : (f r : ℕ) (w : Waiting) → rank_of w < f → not (is_ranked f r w) ≡ true
+kept_low f r w h = not_from_false (is_ranked f r w) (and_left (leb f (rank_of w)) (ltb (rank_of w) r) (lt-leb f (rank_of w) h))
 
-kept-high : (f r : ℕ) (w : Waiting) → r ≤ rank_of w → not (is_ranked f r w) ≡ true
-kept-high f r w h = not_from_false (is_ranked f r w) (and_right (leb f (rank_of w)) (ltb (rank_of w) r) (le-ltb (rank_of w) r h))
+kept_high : (f r : ℕ) (w : Waiting) → r ≤ rank_of w → not (is_ranked f r w) ≡ true
+kept_high f r w h = not_from_false (is_ranked f r w) (and_right (leb f (rank_of w)) (ltb (rank_of w) r) (le-ltb (rank_of w) r h))
 
 all_kept : (f r : ℕ) (ws : List Waiting) → from_rank r ws → filter (λ w. not (is_ranked f r w)) ws ≡ ws
 all_kept f r [] h = refl
 all_kept f r (w ∷ ws) h =
     let rest = filter (λ (v : Waiting). not (is_ranked f r v)) ws in
-    cond-true (not (is_ranked f r w)) (w ∷ rest) rest (kept-high f r w h.0) ∙ ap (λ vs. w ∷ vs) (all_kept f r ws h.1)
+    cond-true (not (is_ranked f r w)) (w ∷ rest) rest (kept_high f r w h.0) ∙ ap (λ vs. w ∷ vs) (all_kept f r ws h.1)
 
-below-none : (f : ℕ) (ws : List Waiting) → from_rank f ws → below f ws ≡ 0
-below-none f [] h = refl
-below-none f (w ∷ ws) h = below-no f w ws h.0
+below_none : (f : ℕ) (ws : List Waiting) → from_rank f ws → below f ws ≡ 0
+below_none f [] h = refl
+below_none f (w ∷ ws) h = below_no f w ws h.0
 
 -- without those who stand from a rank on, and below another
-pub cut-is : (f r : ℕ) (ws : List Waiting) → f ≤ r → AreInOrder ws
+pub cut_is : (f r : ℕ) (ws : List Waiting) → f ≤ r → AreInOrder ws
     → filter (λ w. not (is_ranked f r w)) ws ≡ take (below f ws) ws ++ drop (below r ws) ws
-cut-is f r [] le h = refl
-cut-is f r (w ∷ ws) le h =
+cut_is f r [] le h = refl
+cut_is f r (w ∷ ws) le h =
     let goes = is_ranked f r w in
     let rest = filter (λ (v : Waiting). not (is_ranked f r v)) ws in
     elim (cases_Bool (ltb (rank_of w) f)) [
       | inl e ↦
           let less = ltb-true (rank_of w) f e in
-          cond-true (not goes) (w ∷ rest) rest (kept-low f r w less) ∙ ap (λ vs. w ∷ vs) (cut-is f r ws le h.2)
-          ∙ sym (ap (λ i. take i (w ∷ ws) ++ drop (below r (w ∷ ws)) (w ∷ ws)) (below-yes f w ws less)
-          ∙ ap (λ i. w ∷ take (below f ws) ws ++ drop i (w ∷ ws)) (below-yes r w ws (omega (arith, less, le))))
+          cond-true (not goes) (w ∷ rest) rest (kept_low f r w less) ∙ ap (λ vs. w ∷ vs) (cut_is f r ws le h.2)
+          ∙ sym (ap (λ i. take i (w ∷ ws) ++ drop (below r (w ∷ ws)) (w ∷ ws)) (below_yes f w ws less)
+          ∙ ap (λ i. w ∷ take (below f ws) ws ++ drop i (w ∷ ws)) (below_yes r w ws (omega (arith, less, le))))
       | inr e ↦
           let high = ltb-false (rank_of w) f e in
-          let none : below f (w ∷ ws) ≡ 0 = below-no f w ws high in
+          let none : below f (w ∷ ws) ≡ 0 = below_no f w ws high in
           sym (ap (λ i. take i (w ∷ ws) ++ drop (below r (w ∷ ws)) (w ∷ ws)) none
           ∙ elim (cases_Bool (ltb (rank_of w) r)) [
             | inl k ↦
                 let less = ltb-true (rank_of w) r k in
                 let gone : not goes ≡ false = not_from_true goes (and_from (leb f (rank_of w)) (ltb (rank_of w) r) (le-leb f (rank_of w) high) k) in
-                ap (λ i. drop i (w ∷ ws)) (below-yes r w ws less)
-                ∙ sym (cond-false (not goes) (w ∷ rest) rest gone ∙ cut-is f r ws le h.2
-                ∙ ap (λ i. take i ws ++ drop (below r ws) ws) (below-none f ws (rank-more f (rank_of w) high ws h.1)))
+                ap (λ i. drop i (w ∷ ws)) (below_yes r w ws less)
+                ∙ sym (cond-false (not goes) (w ∷ rest) rest gone ∙ cut_is f r ws le h.2
+                ∙ ap (λ i. take i ws ++ drop (below r ws) ws) (below_none f ws (rank_more f (rank_of w) high ws h.1)))
             | inr k ↦
                 let above = ltb-false (rank_of w) r k in
-                ap (λ i. drop i (w ∷ ws)) (below-no r w ws above)
-                ∙ sym (all_kept f r (w ∷ ws) (above, rank-more r (rank_of w) above ws h.1))
+                ap (λ i. drop i (w ∷ ws)) (below_no r w ws above)
+                ∙ sym (all_kept f r (w ∷ ws) (above, rank_more r (rank_of w) above ws h.1))
           ])
     ]
 
 -- tests that are alike of all in order keep the same
-pub filter-low : (a b : Waiting → Bool) → ((w : Waiting) → w.place.at < 65536 → a w ≡ b w) → (ws : List Waiting) → AreInOrder ws → filter a ws ≡ filter b ws
-filter-low a b same [] h = refl
-filter-low a b same (w ∷ ws) h =
-    ap (λ t. cond t (w ∷ filter a ws) (filter a ws)) (same w h.0) ∙ ap (λ vs. cond (b w) (w ∷ vs) vs) (filter-low a b same ws h.2)
+pub filter_low : (a b : Waiting → Bool) → ((w : Waiting) → w.place.at < 65536 → a w ≡ b w) → (ws : List Waiting) → AreInOrder ws → filter a ws ≡ filter b ws
+filter_low a b same [] h = refl
+filter_low a b same (w ∷ ws) h =
+    ap (λ t. cond t (w ∷ filter a ws) (filter a ws)) (same w h.0) ∙ ap (λ vs. cond (b w) (w ∷ vs) vs) (filter_low a b same ws h.2)
 
 -- ---- which ranks an event has, and those of a stack from a displacement on
 
@@ -404,7 +398,7 @@ ranks_of_place at w low there =
     let places : w.place.at ≡ at.at = omega (arith, low, there, parts.0, parts.1, small) in
     and_from (eqb w.place.stack at.stack) (eqb w.place.at at.at) (eq-eqb w.place.stack at.stack stack) (eq-eqb w.place.at at.at places))
     (λ h.
-    let same = same_place-true w.place at h in
+    let same = same_place_true w.place at h in
     let stack : w.place.stack ≡ at.stack = ap (λ (p : Place). p.stack) same in
     let places : w.place.at ≡ at.at = ap (λ (p : Place). p.at) same in
     ranked_from r (r + 2) w (omega (arith, stack, places)) (omega (arith, stack, places, small)))
@@ -439,19 +433,13 @@ none_as_high stack at (w ∷ ws) high h =
 
 -- ---- the last of those that go is taken out
 
-module _ {X : Type 0} where
-  pub remove-last : (k : ℕ) (xs ys : List X) → k < length xs → take k (take (suc k) xs ++ ys) ++ drop (suc k) (take (suc k) xs ++ ys) ≡ take k xs ++ ys
-  remove-last k [] ys h = absurd (omega (arith, h))
-  remove-last zero (x ∷ xs) ys h = refl
-  remove-last (suc k) (x ∷ xs) ys h = ap (λ zs. x ∷ zs) (remove-last k xs ys (omega (arith, h)))
-
 pub length_taken : (k : ℕ) (xs ys : List Waiting) → k ≤ length xs → k ≤ length (take k xs ++ ys)
 length_taken zero xs ys h = omega arith
 length_taken (suc k) [] ys h = absurd (omega (arith, h))
 length_taken (suc k) (x ∷ xs) ys h = let rest = length_taken k xs ys (omega (arith, h)) in omega (arith, rest)
 
-pub from-past : (r i : ℕ) (ws : List Waiting) → length ws ≤ i → from_rank r (drop i ws)
-from-past r zero [] h = tt
-from-past r (suc i) [] h = tt
-from-past r zero (w ∷ ws) h = absurd (omega (arith, h))
-from-past r (suc i) (w ∷ ws) h = from-past r i ws (omega (arith, h))
+pub from_past : (r i : ℕ) (ws : List Waiting) → length ws ≤ i → from_rank r (drop i ws)
+from_past r zero [] h = tt
+from_past r (suc i) [] h = tt
+from_past r zero (w ∷ ws) h = absurd (omega (arith, h))
+from_past r (suc i) (w ∷ ws) h = from_past r i ws (omega (arith, h))

@@ -1,16 +1,15 @@
 -- The queue of a run by turns.
-use Rattle.std.proofs.Common.{◌≡◌, ◌≢◌, refl, sym, ap, subst, ◌∙◌, ℕ, ◌+◌, ◌≤◌, true, false, List, [], ◌∷◌, ◌++◌, length, Option, Some, None, arith}
+use Rattle.std.proofs.Common.{◌≡◌, ◌≢◌, refl, sym, ap, subst, ◌∙◌, ℕ, ◌+◌, ◌≤◌, false, List, [], ◌∷◌, ◌++◌, length, None, arith}
 use Rattle.std.proofs.Math.Decide.{ℕ_discrete}
 use Rattle.b67_list.specs.Numbered.{numbered}
 use Rattle.b67_segment.specs.declared.code.Code.{Code}
-use Rattle.b67_table.specs.declared.ProcessState.{ProcessState}
-use Rattle.b67_table.specs.declared.ProcessState.TheVariants.{Able, WaitsFor, WaitsAny, Procures, Ended}
 use Rattle.b67_table.specs.Beginning.{first_image}
 use Rattle.b67_table.specs.Ending.{image_end}
-use Rattle.b67_table.specs.Image.{Image, is_able, is_live}
+use Rattle.b67_table.specs.Image.{Image}
 use Rattle.b67_table.specs.Limits.{most_processes}
 use Rattle.b67_table.specs.Valid.{IsValid}
 use Rattle.b67_table.proofs.EventKept.{within_of}
+use Rattle.b67_table.proofs.Waking.{able_live}
 use Rattle.b67_action.specs.Able.{number_times, one_if, able_in, AbleAfter}
 use Rattle.b67_joining.proofs.Able.{not_above, one_able}
 use Rattle.b67_joining.specs.Joining.{IsQueue, joining}
@@ -19,14 +18,6 @@ use Rattle.b67_joining.proofs.Joining.{joining_own, joining_other}
 use Rattle.b67_exec.specs.Turning.{IsListed}
 
 -- ---- who is in it
-
-able_live : (o : Option ProcessState) → is_able o ≡ true → is_live o ≡ true
-able_live (Some Able) e = refl
-able_live (Some Ended) e = cc
-able_live (Some (WaitsFor x)) e = cc
-able_live (Some WaitsAny) e = cc
-able_live (Some (Procures x)) e = cc
-able_live None e = cc
 
 pub valid_listed : (code : Code) (img : Image) → IsValid code img → IsListed img
 valid_listed code img v = record { states = v.states; some = v.some; most = v.most }

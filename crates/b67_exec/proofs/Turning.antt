@@ -1,30 +1,23 @@
 -- What a turn does, by what the operator came to.
-use Rattle.std.proofs.Common.{◌≡◌, refl, sym, ap, subst, ◌∙◌, ℕ, ◌+◌, ◌≤◌, Bool, false, List, ◌∷◌, ◌++◌, length, length-append, Option, Some, None, Ok, arith}
-use Rattle.std.proofs.Math.Decide.{ℕ_discrete}
+use Rattle.std.proofs.Common.{◌≡◌, refl, sym, ap, subst, ◌∙◌, ℕ, ◌+◌, ◌≤◌, Bool, false, List, ◌∷◌, ◌++◌, length, length-append, None, arith}
 use Rattle.b67_list.specs.Numbered.{numbered}
 use Rattle.b67_segment.specs.declared.code.Code.{Code}
-use Rattle.b67_table.specs.declared.InterruptKind.{InterruptKind}
-use Rattle.b67_table.specs.Ending.{ImageEnd, image_end, failed}
+use Rattle.b67_table.specs.Ending.{image_end, failed}
 use Rattle.b67_table.specs.Image.{Image}
 use Rattle.b67_table.specs.Limits.{most_processes}
 use Rattle.b67_table.specs.Outcome.{Outcome}
-use Rattle.b67_table.specs.Table.{table, stack_length}
+use Rattle.b67_table.specs.Table.{table}
 use Rattle.b67_table.specs.Valid.{IsValid}
 use Rattle.b67_letters.specs.Releases.{registers_releases, released_by, releases}
-use Rattle.b67_intrinsics.specs.Called.{ImageIsLeft}
 use Rattle.b67_action.specs.declared.done.Done.{Done}
 use Rattle.b67_action.specs.declared.done.Done.TheVariants.{Went, Waits, Ended, Fault, Interrupt, StackLimit, NoMemory}
 use Rattle.b67_action.specs.Done.{Came, is_performed}
-use Rattle.b67_machine.specs.Kept.{MachineModel, Counts, operators_counted}
-use Rattle.b67_machine.specs.Reads.{machine_end, machine_end_by}
+use Rattle.b67_machine.specs.Kept.{MachineModel, Counts}
 use Rattle.b67_machine.specs.Stepping.{image_after, operators_in, limit_of, lacks, released_where, MachineActs, Steps, StepsBy}
 use Rattle.b67_joining.specs.Joining.{IsQueue, joining}
 use Rattle.b67_joining.proofs.Joining.{released_few}
-use Rattle.b67_exec.specs.declared.Stopped.{Stopped}
-use Rattle.b67_exec.specs.declared.Stopped.TheVariants as stopped
-use Rattle.b67_exec.specs.Exec.{told_stopped}
 use Rattle.b67_exec.specs.Turns.{Turns, exec_turn, goes, turned, turn_by, turn_in, turn_unless, to_rear}
-use Rattle.b67_exec.specs.Turning.{IsListed, turns_at, TurnGoes, TurnStops, TurnLacks, Turned}
+use Rattle.b67_exec.specs.Turning.{IsListed, turns_at, TurnGoes}
 use Rattle.b67_exec.proofs.Queues.{valid_listed, queue_few, queue_after}
 
 -- ---- the definition, at an operator
@@ -121,52 +114,6 @@ module _ (old new : MachineModel) (p : ℕ) (others : List ℕ) (done : Done) (a
   goes_through next e = subst (TurnGoes old (p ∷ others) new) (sym e) goes_rear
 
 -- ---- an operator that is not
-
-counts_same : (before after : List ℕ) (p : ℕ) → Counts before p 0 after → (q : ℕ) → operators_counted after q ≡ operators_counted before q
-counts_same before after p c q = by (ℕ_discrete q p)
-  where
-    by : Dec (q ≡ p) → operators_counted after q ≡ operators_counted before q
-    by (yes e) =
-        let own : operators_counted after p ≡ operators_counted before p = omega (arith, c.own) in
-        subst (λ (n : ℕ). operators_counted after n ≡ operators_counted before n) (sym e) own
-    by (no h) = c.others q h
-
-module _ (old new : MachineModel) (p : ℕ) (others : List ℕ) where
-  pub interrupted : (kind : InterruptKind) → MachineActs old p (Interrupt kind) new → TurnStops old (p ∷ others) (stopped.Interrupt kind p) new
-  interrupted kind acts = record {
-    stops = (refl, acts.came.0);
-    image = acts.image ∙ acts.came.1;
-    counts = counts_same old.counts new.counts p acts.counts;
-    same = acts.code;
-  }
-
-  pub limited : MachineActs old p StackLimit new → image_end old.image ≡ None → (next : List ℕ) (answer : Option Stopped) → answer ≡ told_stopped (machine_end new)
-      → Turned old (p ∷ others) (Ok answer) new next
-  limited acts going next answer e =
-      subst (λ (o : Option Stopped). Turned old (p ∷ others) (Ok o) new next) (sym (e ∙ at_limit)) (record {
-        stops = (refl, refl, acts.came.0);
-        image = same;
-        counts = counts_same old.counts new.counts p acts.counts;
-        same = acts.code;
-      })
-    where
-      same : new.image ≡ old.image
-      same = acts.image ∙ acts.came.1
-
-      at_limit : told_stopped (machine_end new) ≡ Some (stopped.StackLimit p (stack_length p old.image))
-      at_limit =
-          ap (λ (o : Option ImageEnd). told_stopped (machine_end_by o new)) (ap image_end same ∙ going)
-          ∙ ap (λ (o : Option ℕ). told_stopped (machine_end_by None (record new { limit = o }))) acts.limit
-          ∙ ap (λ (i : Image). Some (stopped.StackLimit p (stack_length p i))) same
-
-  pub lacking : MachineActs old p NoMemory new → TurnLacks old (p ∷ others) new
-  lacking acts = record {
-    makes = acts.came.0;
-    image = subst (ImageIsLeft old.image) (sym acts.image) acts.came.1;
-    counts = counts_same old.counts new.counts p acts.counts;
-    lacked = acts.lacked;
-    same = acts.code;
-  }
 
 -- the operator was tried, since memory did not lack before
 pub acts_of : (old new : MachineModel) (p : ℕ) (done : Done) → old.lacked ≡ false → Steps old p done new → MachineActs old p done new

@@ -1,7 +1,6 @@
 -- The printed end of a run is that of the source, and what is left of the given schedule is what it says.
-use Rattle.std.proofs.Common.{◌≡◌, ◌⊎◌, inl, inr, ℕ, ◌<◌, ◌≤◌, Bool, true, List, [], ◌∷◌, length, Option, Some, None, refl, sym, ap, ◌∙◌, subst, arith}
+use Rattle.std.proofs.Common.{◌≡◌, ◌⊎◌, inl, inr, ℕ, ◌<◌, ◌≤◌, Bool, List, [], ◌∷◌, length, Option, Some, None, refl, sym, ap, ◌∙◌, subst, arith}
 use Rattle.std.specs.Prelude.{◌≢◌}
-use Rattle.b67_list.specs.Numbered.{numbered}
 use Rattle.algol_tree.specs.Plain.{PProgram}
 use Rattle.algol_meaning.specs.World.{World, process_at}
 use Rattle.algol_meaning.specs.World.{is_able as meaning_able}
@@ -9,9 +8,10 @@ use Rattle.algol_meaning.specs.Run.{end_of, may_go}
 use Rattle.algol_meaning.specs.Run as meaning
 use Rattle.b67_report.specs.declared.EndWords.{EndWords}
 use Rattle.b67_segment.specs.declared.code.Code.{Code}
-use Rattle.b67_table.specs.Image.{Image, is_able}
+use Rattle.b67_table.specs.Image.{Image}
 use Rattle.b67_table.specs.Ending.{ImageEnd, image_end, goes_on, may_act}
 use Rattle.b67_table.specs.Ending as machine
+use Rattle.b67_table.proofs.Cited.{may_parts}
 use Rattle.b67_faithful.specs.Agreement.{end_as, Shows, Fits}
 use Rattle.b67_machine.specs.declared.replay.Replayed.{Replayed}
 use Rattle.b67_machine.specs.declared.replay.Replayed.TheVariants.{Ended, Ran, Illegal, BudgetSpent, NoMemory, Differs}
@@ -21,22 +21,14 @@ use Rattle.b67_machine.specs.Replaying.{ReplayAnswers, MayGo, ReplayAtLimit, IsI
 use Rattle.b67_explain.specs.Explaining.{EndIs, ScheduleIsLeft, IsTail, NextIsIllegal, NextGoes}
 use Rattle.b67_explain.specs.Telling.{words_of_end, EndTells}
 
-goes_without : (e : Option ImageEnd) (able_now : Bool) → goes_on e able_now ≡ true → (e ≡ None) × (able_now ≡ true)
-goes_without None able_now h = (refl, h)
-goes_without (Some x) able_now h = cc
-
-pub acting : (img : Image) (p : ℕ) → may_act img p ≡ true → (image_end img ≡ None) × (is_able (numbered img.states p) ≡ true)
-unfolding may_act
-acting img p h = goes_without (image_end img) (is_able (numbered img.states p)) h
-
-going : (e : Option ImageEnd) (able_now : Bool) → meaning.goes_on (end_as e) able_now ≡ goes_on e able_now
+pub going : (e : Option ImageEnd) (able_now : Bool) → meaning.goes_on (end_as e) able_now ≡ goes_on e able_now
 going None able_now = refl
 going (Some machine.finished) able_now = refl
 going (Some (machine.faulted kind p)) able_now = refl
 going (Some machine.all_waiting) able_now = refl
 
 -- a process may go on in the world where it may act in the image
-may_both : (code : Code) (w : World) (img : Image) (p : ℕ) → Shows code w img → may_go w p ≡ may_act img p
+pub may_both : (code : Code) (w : World) (img : Image) (p : ℕ) → Shows code w img → may_go w p ≡ may_act img p
 unfolding may_go may_act
 may_both code w img p shows =
     ap (λ e. meaning.goes_on e (meaning_able ((process_at w p).state))) shows.ends
@@ -102,7 +94,7 @@ module _ (tree : PProgram) (code : Code) (w : World) (img : Image) (shows : Show
       ReplayAtLimit code left img m.limit → EndTells Ended (machine_end m) end → Said budget operators performed left tail end
   at_limit m budget operators performed [] tail end same less goes at tells = absurd goes
   at_limit m budget operators performed (p ∷ left) tail end same less goes at tells =
-      let none = (acting img p goes).0 in
+      let none = (may_parts img p goes).0 in
       let there : machine_end m ≡ limit_end (Some p) img.regs =
       ap (λ o. machine_end_by o m) (ap image_end same ∙ none) ∙ ap (λ o. limit_end o m.image.regs) at.1 ∙ ap (λ (i : Image). limit_end (Some p) i.regs) same in
       let said = subst (λ o. EndTells Ended o end) there tells in

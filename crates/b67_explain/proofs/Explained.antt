@@ -5,8 +5,7 @@ use Rattle.std.specs.List.{All, AllByRecursion}
 use mathlib.Core.List.{reverse-cons}
 use Rattle.algol_tree.specs.Plain.{PProgram}
 use Rattle.algol_tree.specs.Scopes.{scopes_of}
-use Rattle.algol_meaning.specs.World.{World, is_able, process_at}
-use Rattle.algol_meaning.specs.Run.{run, start, may_go}
+use Rattle.algol_meaning.specs.Run.{run, start}
 use Rattle.algol_laws.specs.Kept.{EachRunGrows}
 use Rattle.b67_deeds.specs.declared.Letter.{Letter}
 use Rattle.b67_schedule.specs.declared.reading.Given.{Given}
@@ -23,6 +22,7 @@ use Rattle.b67_segment.specs.declared.code.Code.{Code}
 use Rattle.b67_table.specs.Image.{Image}
 use Rattle.b67_table.specs.Ending.{ImageEnd, image_end, may_act}
 use Rattle.b67_table.specs.Runs.{TableRun, Runs, begin, entry, count_of, none}
+use Rattle.b67_table.proofs.Cited.{may_parts}
 use Rattle.b67_faithful.specs.Agreement.{WorldAgrees}
 use Rattle.b67_faithful.specs.Faithful.{Faithful, longest}
 use Rattle.b67_machine.specs.declared.replay.Replayed.{Replayed}
@@ -32,15 +32,16 @@ use Rattle.b67_machine.specs.declared.reads.End.TheVariants as machine_ends
 use Rattle.b67_machine.specs.Kept.{MachineModel, operators_counted}
 use Rattle.b67_machine.specs.Reads.{machine_end, machine_end_by, end_shown, limit_end}
 use Rattle.b67_machine.specs.Replaying.{Replays, ReplaysEntries, ReplayAnswers, MayGo, ReplayAtLimit, MachineStands, is_lacking, tails_of, tail_of, NoneDiffers, AgreeAs, letters_of}
-use Rattle.b67_explain.specs.Explaining.{EndIs, ScheduleIsLeft, IsTail, NextGoes, Explains, IsOwnEnd, ExplainsRun, ExplainsReplay, AgreeBy}
+use Rattle.b67_list.proofs.Numbers.{more_room}
+use Rattle.b67_explain.specs.Explaining.{EndIs, ScheduleIsLeft, IsTail, NextGoes, Explains, ExplainsReplay, AgreeBy}
 use Rattle.b67_explain.specs.Explaining.{NoneDiffers as NoneSaid, AgreeAs as SaidAs}
 use Rattle.b67_explain.specs.Telling.{CanBeTold, EndTells, IsReportOf}
 use Rattle.b67_explain.proofs.Outputs.{run_writes}
 use Rattle.b67_explain.proofs.Printed.{listing_fine, output_fine}
-use Rattle.b67_explain.proofs.Naming.{IsOneOf, able_is_one, going_is_able, entries_are_there}
+use Rattle.b67_explain.proofs.Naming.{IsOneOf, able_is_one, entries_are_there}
 use Rattle.b67_explain.proofs.Summing.{from_on, from_on_sum, entries_by_process, sum_by_number}
-use Rattle.b67_explain.proofs.Tailed.{IsTailOf, tail_counted, each_may_go, tail_sum, sum_tails, tails_are_few, more_room}
-use Rattle.b67_explain.proofs.Ending.{acting, going_there, Said, said_of}
+use Rattle.b67_explain.proofs.Tailed.{IsTailOf, tail_counted, tail_sum, sum_tails, tails_are_few}
+use Rattle.b67_explain.proofs.Ending.{going_there, Said, said_of}
 
 all_split : (P : ℕ → Type 0) (xs ys : List ℕ) → AllByRecursion P (xs ++ ys) → AllByRecursion P xs × AllByRecursion P ys
 all_split P [] ys h = (tt, h)
@@ -62,11 +63,6 @@ not_lacking (Illegal number) m end tells = refl
 not_lacking BudgetSpent m end tells = refl
 not_lacking NoMemory m end tells = absurd tells
 not_lacking (Differs number) m end tells = refl
-
--- who may go on is able
-able_if : (n : ℕ) (w : World) (p : ℕ) → (n ≡ 0) ⊎ (may_go w p ≡ true) → (n ≡ 0) ⊎ (is_able ((process_at w p).state) ≡ true)
-able_if n w p (inl e) = inl e
-able_if n w p (inr e) = inr (going_is_able w p e)
 
 -- where there is a tail, the next entry may go
 tail_may_go : (code : Code) (budget spent : ℕ) (done left : List ℕ) (tail : ℕ) (img : Image) (m : MachineModel) (answer : Replayed) →
@@ -129,7 +125,7 @@ module _ (grows : EachRunGrows) (tree : PProgram) (code : Code) (faithful : Fait
 
   may_is_one : (p : ℕ) → may_act replays.image p ≡ true → IsOneOf replays.image.started p
   may_is_one p h =
-      subst (λ (n : ℕ). IsOneOf n p) (sym number_is) (able_is_one agrees.world p (agrees.shows.able p ∙ (acting replays.image p h).1))
+      subst (λ (n : ℕ). IsOneOf n p) (sym number_is) (able_is_one agrees.world p (agrees.shows.able p ∙ (may_parts replays.image p h).1))
 
   tail_is : (left : List ℕ) → (replays.tail ≡ 0) ⊎ MayGo left replays.image → IsTailOf replays.image.started left replays.tail
   tail_is [] (inl none_there) = none_there
@@ -253,24 +249,8 @@ module _ (grows : EachRunGrows) (tree : PProgram) (code : Code) (faithful : Fait
         by (inl none_there) = inl none_there
         by (inr may) = inr (going_there tree code agrees.world replays.image agrees.shows agrees.fits replays.left may)
 
-    each_goes : (p : ℕ) → (operators_counted (tails_of replays.left replays.tail) p ≡ 0) ⊎ (may_go agrees.world p ≡ true)
-    each_goes = each_may_go agrees.world replays.image.started replays.left replays.tail tailed tail_goes
-
-    each_able : (p : ℕ) → (operators_counted (tails_of replays.left replays.tail) p ≡ 0) ⊎ (is_able ((process_at agrees.world p).state) ≡ true)
-    each_able p = able_if (operators_counted (tails_of replays.left replays.tail) p) agrees.world p (each_goes p)
-
     pub all_within : sum report.operators ≤ budget
     all_within = omega (arith, all_operators, replays.within)
-
-pub run_explained : (grows : EachRunGrows) (tree : PProgram) (code : Code) → Faithful tree code → (given : List ℕ) (budget : ℕ) (m : MachineModel) (answer : Replayed) (schedule : ScheduleModel) →
-    ReplaysEntries code given budget (entries schedule.runs) schedule.letters m answer → (processors : ℕ) (lines : List (List ℕ)) (report : Report) → IsReportOf m answer lines processors schedule report →
-    IsSchedule schedule.runs schedule.letters → ListingText code lines → IsOwnEnd report.end → ExplainsRun tree processors budget report
-unfolding explained
-run_explained grows tree code faithful given budget m answer schedule replays processors lines report is valid listed own = record {
-  explains = explained grows tree code faithful given budget m answer schedule replays processors lines report is valid listed;
-  own = own;
-  able = each_able grows tree code faithful given budget m answer schedule replays processors lines report is valid listed;
-}
 
 -- ---- the letters of a replay
 
@@ -349,7 +329,7 @@ limit_can : (code : Code) (m : MachineModel) (img : Image) (left : List ℕ) →
 limit_can code m img [] there_is goes at = absurd goes
 limit_can code m img (p ∷ left) there_is goes at =
     let there : machine_end m ≡ limit_end (Some p) m.image.regs =
-    ap (λ o. machine_end_by o m) (ap image_end there_is ∙ (acting img p goes).0) ∙ ap (λ o. limit_end o m.image.regs) at.1 in
+    ap (λ o. machine_end_by o m) (ap image_end there_is ∙ (may_parts img p goes).0) ∙ ap (λ o. limit_end o m.image.regs) at.1 in
     subst (CanBeTold Ended) (sym there) tt
 
 pub can_be_told : (code : Code) (given : List ℕ) (budget : ℕ) (performed : List ℕ) (noted : List Letter) (m : MachineModel) (answer : Replayed) →

@@ -1,8 +1,8 @@
 mod Counts
 mod Naming
 mod Summing
-mod Tailed
-mod Ending
+pub mod Tailed
+pub mod Ending
 mod Outputs
 mod Printed
 pub mod Explained

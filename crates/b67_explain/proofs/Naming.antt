@@ -6,7 +6,8 @@ use Rattle.b67_list.specs.Numbered.{numbered}
 use Rattle.algol_tree.specs.Scopes.{Scopes}
 use Rattle.algol_meaning.specs.World.{World, Process, is_able, or_no_process, process_at}
 use Rattle.algol_meaning.specs.Choice.{choice}
-use Rattle.algol_meaning.specs.Run.{may_go, goes_on, end_of, End, after_entry, run_from}
+use Rattle.algol_meaning.specs.Run.{may_go, end_of, after_entry, run_from}
+use Rattle.algol_meaning.proofs.Cited.{goes_able}
 use Rattle.algol_laws.specs.Kept.{EachRunGrows}
 use Rattle.b67_table.proofs.Lists.{numbered_within, numbered_from}
 
@@ -18,13 +19,9 @@ some_process : (o : Option Process) → is_able ((or_no_process o).state) ≡ tr
 some_process (Some q) e = (q, refl)
 some_process None e = cc
 
-is_there : (e : Option End) (able_now : Bool) → goes_on e able_now ≡ true → able_now ≡ true
-is_there None able_now e = e
-is_there (Some x) able_now e = cc
-
 pub going_is_able : (w : World) (p : ℕ) → may_go w p ≡ true → is_able ((process_at w p).state) ≡ true
 unfolding may_go
-going_is_able w p e = is_there (end_of w) (is_able ((process_at w p).state)) e
+going_is_able w p e = goes_able (end_of w) (is_able ((process_at w p).state)) e
 
 pub able_is_one : (w : World) (p : ℕ) → is_able ((process_at w p).state) ≡ true → IsOneOf (length w.processes) p
 able_is_one w p e = let q = some_process (numbered w.processes p) e in (numbered_from w.processes p q.0 q.1, numbered_within w.processes p q.0 q.1)

@@ -21,6 +21,7 @@ use Rattle.b67_table.specs.Image.{Image}
 use Rattle.b67_table.specs.Ending.{ImageEnd, image_end}
 use Rattle.b67_table.specs.Runs.{TableRun, count_of}
 use Rattle.b67_table.specs.Runs as table_runs
+use Rattle.b67_table.proofs.Cited.{may_parts}
 use Rattle.b67_action.specs.Able.{able_in}
 use Rattle.b67_faithful.specs.Agreement.{WorldAgrees}
 use Rattle.b67_faithful.specs.Agreement.{end_as}
@@ -32,7 +33,6 @@ use Rattle.b67_machine.specs.declared.reads.End.TheVariants as ends_of
 use Rattle.b67_machine.specs.Kept.{MachineModel, or_none, operators_counted}
 use Rattle.b67_machine.specs.Letters.{AreLetters}
 use Rattle.b67_machine.specs.Reads.{machine_end, end_shown, machine_end_by, limit_end}
-use Rattle.b67_machine.specs.Replaying.{MachineStands}
 use Rattle.b67_stands.specs.Tails.{at_place, tail_of}
 use Rattle.b67_stands.specs.Running.{Running, run_ends, answer_by, answer_of}
 use Rattle.b67_stands.specs.Stands.{Stands}
@@ -40,6 +40,9 @@ use Rattle.b67_stands.specs.Alone.{ByOne}
 use Rattle.b67_stands.specs.Picked.{Pick}
 use Rattle.b67_stands.specs.Shared.{Shared, ByProcessors}
 use Rattle.b67_stands.specs.Ran.{HasRun, HasRunAlone, HasRunShared}
+use Rattle.b67_stands.proofs.Showing.{shows_is}
+use Rattle.b67_list.proofs.Answered.{no_limit}
+use Rattle.b67_list.proofs.Numbers.{more_room}
 use Rattle.b67_explain.proofs.Turning.{picked_runs_are_turns}
 use Rattle.b67_explain.specs.Explaining.{EndIs, Explains, IsOwnEnd, ExplainsRun}
 use Rattle.b67_explain.specs.Alone.{ExplainsAlone}
@@ -49,8 +52,7 @@ use Rattle.b67_explain.proofs.Outputs.{run_writes}
 use Rattle.b67_explain.proofs.Printed.{listing_fine, output_fine}
 use Rattle.b67_explain.proofs.Naming.{IsOneOf, entries_are_there}
 use Rattle.b67_explain.proofs.Summing.{from_on, from_on_sum, entries_by_process, sum_by_number}
-use Rattle.b67_explain.proofs.Tailed.{more_room}
-use Rattle.b67_explain.proofs.Ending.{acting, Said, said_of}
+use Rattle.b67_explain.proofs.Ending.{said_of}
 use Rattle.b67_explain.proofs.Explained.{all_back, count_for_each}
 
 -- ---- tails
@@ -86,10 +88,6 @@ not_lacking : (x : Bool) (o : Option End) (b : Bool) (answer : Replayed) → ans
 not_lacking false o b answer e h = refl
 not_lacking true o b answer e h = let same : answer ≡ NoMemory = cc in absurd (h same)
 
-shown_is : (x : Bool) (img now : Image) → x ≡ false → MachineStands x img now → now ≡ img
-shown_is false img now e s = s
-shown_is true img now e s = cc
-
 -- how the run ended
 data EndedBy (o : Option End) (b : Bool) (answer : Replayed) : Type 0 where
   by_end : (e : End) → o ≡ Some e → answer ≡ Ended → EndedBy o b answer
@@ -114,15 +112,8 @@ limit_some : (o : Option ℕ) (m : MachineModel) (e : End) → limit_end o m.ima
 limit_some None m e h = cc
 limit_some (Some p) m e h = (p, refl)
 
-no_limit : (o : Option ℕ) → ((p : ℕ) → o ≡ Some p → ⊥) → o ≡ None
-no_limit None h = refl
-no_limit (Some p) h = absurd (h p refl)
-
 module _ (grows : EachRunGrows) (tree : PProgram) (code : Code) (faithful : Faithful tree code) (budget : ℕ) (s : Running) (stands : Stands code budget s) (answer : Replayed)
     (is_answer : answer_of budget s ≡ Some answer) (some : answer ≢ NoMemory) where
-  abbrev done : List ℕ
-  done = entries s.schedule.runs
-
   abbrev agrees : WorldAgrees tree code (entries s.schedule.runs) stands.image
   agrees = faithful.follows.legal (entries s.schedule.runs) stands.tails stands.image stands.leads.run
 
@@ -130,7 +121,7 @@ module _ (grows : EachRunGrows) (tree : PProgram) (code : Code) (faithful : Fait
   lacked_not = not_lacking s.machine.lacked (machine_end s.machine) (nat_le budget s.spent) answer is_answer some
 
   same : s.machine.image ≡ stands.image
-  same = shown_is s.machine.lacked stands.image s.machine.image lacked_not stands.shows
+  same = shows_is s.machine.lacked stands.image s.machine.image lacked_not stands.shows
 
   ended_so : EndedBy (machine_end s.machine) (nat_le budget s.spent) answer
   ended_so =
@@ -160,9 +151,6 @@ module _ (grows : EachRunGrows) (tree : PProgram) (code : Code) (faithful : Fait
 
   -- ---- the end
 
-  abbrev EndsSo : List ℕ → EndWords → Type 0
-  EndsSo left end = Said tree code agrees.world stands.image agrees.shows agrees.fits budget s.spent (length (entries s.schedule.runs)) left 0 end
-
   at_machine_end : (e : End) (end : EndWords) → machine_end s.machine ≡ Some e → EndTells Ended (machine_end s.machine) end
       → EndIs tree code agrees.world stands.image budget s.spent end
   at_machine_end e end there tells = by (image_end stands.image) refl
@@ -170,7 +158,7 @@ module _ (grows : EachRunGrows) (tree : PProgram) (code : Code) (faithful : Fait
       by : (o : Option ImageEnd) → image_end stands.image ≡ o → EndIs tree code agrees.world stands.image budget s.spent end
       by (Some x) i =
           let some_end : image_end stands.image ≢ None = λ n. let no : Some x ≡ None = sym i ∙ n in cc in
-          let none : s.machine.limit ≡ None = no_limit s.machine.limit (λ p h. some_end (acting stands.image p (stands.limit p h).0.may).0) in
+          let none : s.machine.limit ≡ None = no_limit s.machine.limit (λ p h. some_end (may_parts stands.image p (stands.limit p h).0.may).0) in
           (said_of tree code agrees.world stands.image agrees.shows agrees.fits s.machine budget s.spent (length (entries s.schedule.runs)) (entries s.schedule.runs) [] 0 end same
           (stands.within some_end) Ended refl
           (inl (refl, refl, some_end, none)) tells).ended

@@ -2,10 +2,11 @@
 use Rattle.std.proofs.Common.{◌≡◌, ◌⊎◌, inl, inr, ℕ, zero, suc, ◌+◌, ◌<◌, ◌≤◌, Bool, List, [], ◌∷◌, length, refl, ap, ◌∙◌, arith}
 use Rattle.std.specs.Prelude.{if◌then◌else◌, nat_eq, sum}
 use Rattle.std.specs.List.{AllByRecursion}
-use Rattle.std.proofs.lemmas.Bool.{eq-eqb, ne_eqb}
+use Rattle.std.proofs.lemmas.Bool.{ne_eqb}
 use Rattle.std.proofs.lemmas.List.Sums.{sum_by-cons}
 use Rattle.b67_table.specs.Runs.{count_of}
 use Rattle.b67_machine.specs.Kept.{operators_counted}
+use Rattle.b67_stands.proofs.Counts.{has_some}
 use Rattle.b67_explain.proofs.Naming.{IsOneOf}
 
 -- what so many processes from p on have
@@ -31,9 +32,6 @@ from_on_none p (suc n) = let rest = from_on_none (p + 1) n in omega (arith, rest
 -- one process only has some
 pub has_none : (c p k : ℕ) → (p ≡ k → ⊥) → (if nat_eq p k then c else 0) ≡ 0
 has_none c p k h = ap (λ (b : Bool). if b then c else 0) (ne_eqb p k h)
-
-pub has_some : (c p k : ℕ) → p ≡ k → (if nat_eq p k then c else 0) ≡ c
-has_some c p k e = ap (λ (b : Bool). if b then c else 0) (eq-eqb p k e)
 
 from_on_other : (k c p n : ℕ) → k < p → from_on (λ q. if nat_eq q k then c else 0) p n ≡ 0
 from_on_other k c p zero h = refl

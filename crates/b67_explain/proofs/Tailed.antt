@@ -1,14 +1,12 @@
 -- The tail of the process of the next entry.
-use Rattle.std.proofs.Common.{◌≡◌, ◌⊎◌, inl, inr, ℕ, zero, suc, ◌+◌, ◌-◌, ◌*◌, ◌≤◌, Bool, true, false, List, [], ◌∷◌, ◌++◌, length, refl, sym, ap, ◌∙◌, subst, arith}
+use Rattle.std.proofs.Common.{◌≡◌, ◌⊎◌, inl, inr, ℕ, zero, suc, ◌+◌, ◌-◌, ◌≤◌, Bool, true, false, List, [], ◌∷◌, ◌++◌, length, refl, sym, ap, ◌∙◌, subst, arith}
 use Rattle.std.specs.Prelude.{if◌then◌else◌, nat_eq, sum, replicate}
 use Rattle.std.proofs.Math.Decide.{ℕ_discrete}
 use Rattle.std.proofs.lemmas.List.Sums.{sum_by-cons}
 use Rattle.b67_machine.specs.Kept.{operators_counted}
 use Rattle.b67_machine.specs.Replaying.{tails_of, tail_of}
-use Rattle.algol_meaning.specs.World.{World}
-use Rattle.algol_meaning.specs.Run.{may_go}
-use Rattle.b67_explain.specs.Explaining.{NextGoes}
-use Rattle.b67_explain.proofs.Summing.{from_on, from_on_one, from_on_zero, from_on_equal, has_none, has_some}
+use Rattle.b67_stands.proofs.Counts.{has_some}
+use Rattle.b67_explain.proofs.Summing.{from_on, from_on_one, from_on_zero, from_on_equal, has_none}
 
 -- there is no tail, or the process of the next entry is one of so many
 abbrev pub IsTailOf : ℕ → List ℕ → ℕ → Type 0
@@ -54,20 +52,6 @@ tail_counted n (suc p) (suc q ∷ left) tail one (inr there) =
     same : (q : ℕ) → q ≡ suc q - 1
     same q = omega arith
 
--- a process that has a tail may go on, where the next entry's may
-pub each_may_go : (w : World) (n : ℕ) (left : List ℕ) (tail : ℕ) → IsTailOf n left tail → (tail ≡ 0) ⊎ NextGoes w left → (p : ℕ) →
-    (operators_counted (tails_of left tail) p ≡ 0) ⊎ (may_go w p ≡ true)
-each_may_go w n [] tail is goes zero = inl refl
-each_may_go w n [] tail is goes (suc p) = inl refl
-each_may_go w n (q ∷ left) tail is (inl none) p =
-    inl (subst (λ (t : ℕ). operators_counted (tails_of (q ∷ left) t) p ≡ 0) (sym none) (zeros (q - 1) p))
-each_may_go w n (q ∷ left) tail is (inr goes) zero = inl refl
-each_may_go w n (q ∷ left) tail is (inr goes) (suc p) = by (ℕ_discrete (suc p) q)
-  where
-    by : Dec (suc p ≡ q) → (operators_counted (tails_of (q ∷ left) tail) (suc p) ≡ 0) ⊎ (may_go w (suc p) ≡ true)
-    by (yes e) = inr (ap (may_go w) e ∙ goes)
-    by (no h) = inl (tail_counted n (suc p) (q ∷ left) tail (omega arith) is ∙ has_none tail (suc p) q h)
-
 -- the tails of so many processes come to the one tail
 pub tail_sum : (n : ℕ) (left : List ℕ) (tail : ℕ) → IsTailOf n left tail → from_on (tail_of left tail) 1 n ≡ tail
 tail_sum n [] tail is = from_on_zero n ∙ sym is
@@ -77,7 +61,7 @@ tail_sum n (q ∷ left) tail (inl none) =
     ∙ from_on_zero n ∙ sym none
 tail_sum n (q ∷ left) tail (inr there) = from_on_one q tail 1 n there.0 (omega (arith, there.1))
 
-sum_zeros : (k n : ℕ) → sum (replicate k 0 ++ n ∷ []) ≡ n
+pub sum_zeros : (k n : ℕ) → sum (replicate k 0 ++ n ∷ []) ≡ n
 sum_zeros zero n = let s = sum_by-cons (λ x. x) n [] in omega (arith, s)
 sum_zeros (suc k) n = let s = sum_by-cons (λ x. x) 0 (replicate k 0 ++ n ∷ []) in omega (arith, s, sum_zeros k n)
 
@@ -91,9 +75,3 @@ length_tails (suc k) n = let rest = length_tails k n in omega (arith, rest)
 
 pub tails_are_few : (n q : ℕ) (left : List ℕ) (tail : ℕ) → 1 ≤ q → q ≤ n → length (tails_of (q ∷ left) tail) ≤ n
 tails_are_few n q left tail one most = let l = length_tails (q - 1) tail in omega (arith, l, one, most)
-
--- more entries have more room
-pub more_room : (a b m : ℕ) → a ≤ b → a * m ≤ b * m
-more_room zero b m h = omega arith
-more_room (suc a) zero m h = absurd (omega (arith, h))
-more_room (suc a) (suc b) m h = let rest = more_room a b m (omega (arith, h)) in omega (arith, rest)

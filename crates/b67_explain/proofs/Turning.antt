@@ -2,43 +2,29 @@
 use Rattle.std.specs.Prelude.{reverse, if◌then◌else◌, slice_get, take, drop, remove}
 use Rattle.std.proofs.Common.{◌≡◌, refl, sym, ap, subst, ◌∙◌, ℕ, suc, ◌+◌, Bool, true, false, List, [], ◌∷◌, ◌++◌, length, Option, Some, None, append_assoc, append-nil, arith}
 use Rattle.std.proofs.lemmas.List.{length-reverse}
-use Rattle.b67_list.specs.Numbered.{numbered}
+use Rattle.b67_list.proofs.Lists.{first_same}
 use Rattle.algol_tree.specs.Plain.{PProgram}
 use Rattle.algol_tree.specs.Scopes.{Scopes, scopes_of}
-use Rattle.algol_meaning.specs.World.{World, process_at}
+use Rattle.algol_meaning.specs.World.{World}
 use Rattle.algol_meaning.specs.World as world
 use Rattle.algol_meaning.specs.Choice.{Choice, choice}
 use Rattle.algol_meaning.specs.Run.{start, run, may_go, end_of}
-use Rattle.algol_meaning.specs.Run as meaning
 use Rattle.algol_meaning.specs.Turns.{turn_listed, queued, entries_with, turns_from, turns}
 use Rattle.b67_segment.specs.declared.code.Code.{Code}
 use Rattle.b67_letters.specs.Releases.{releases, operator_starts}
 use Rattle.b67_letters.specs.Entries.{all_released, all_started}
-use Rattle.b67_table.specs.Ending.{ImageEnd, image_end, may_act}
-use Rattle.b67_table.specs.Ending as ending
-use Rattle.b67_table.specs.Image.{Image, is_able}
+use Rattle.b67_table.specs.Ending.{may_act}
+use Rattle.b67_table.specs.Image.{Image}
 use Rattle.b67_table.specs.Runs.{Runs, begin, entry, TableRun, none}
-use Rattle.b67_faithful.specs.Agreement.{WorldAgrees, Shows, end_as}
+use Rattle.b67_faithful.specs.Agreement.{WorldAgrees, Shows}
 use Rattle.b67_faithful.specs.Correspondence.{released_in, started_in, source_released, source_started}
 use Rattle.b67_faithful.specs.Faithful.{Faithful}
-use Rattle.b67_faithful.proofs.Sources.{Before, before, entered_back, reverse-cons}
+use Rattle.b67_faithful.proofs.Sources.{Before, before, entered_back, reverse_cons}
 use Rattle.b67_stands.specs.Picked.{Pick, if_started, to_rear, waiting_after, ArePicked}
 use Rattle.b67_explain.specs.Turning.{IsByTurns, PickedRunsAreTurns}
+use Rattle.b67_explain.proofs.Ending.{may_both}
 
 -- ---- who may go on
-
-goes_on_same : (o : Option ImageEnd) (able : Bool) → meaning.goes_on (end_as o) able ≡ ending.goes_on o able
-goes_on_same None able = refl
-goes_on_same (Some ending.finished) able = refl
-goes_on_same (Some (ending.faulted kind p)) able = refl
-goes_on_same (Some ending.all_waiting) able = refl
-
-may_same : (code : Code) (w : World) (img : Image) (p : ℕ) → Shows code w img → may_go w p ≡ may_act img p
-unfolding may_go may_act
-may_same code w img p shows =
-    ap (λ (o : Option meaning.End). meaning.goes_on o (world.is_able ((process_at w p).state))) shows.ends
-    ∙ ap (meaning.goes_on (end_as (image_end img))) (shows.able p)
-    ∙ goes_on_same (image_end img) (is_able (numbered img.states p))
 
 -- ---- who goes to the rear
 
@@ -69,9 +55,6 @@ queued_is c w code quiet b waiting p e r s m =
 
 some_same : (w v : World) → Some w ≡ Some v → w ≡ v
 some_same w v e = cc
-
-first_same : {A : Type 0} (x y : A) (xs ys : List A) → x ∷ xs ≡ y ∷ ys → x ≡ y
-first_same x y xs ys e = cc
 
 turn_by : (sc : Scopes) (w : World) (queue : List ℕ) (at : ℕ) (p : ℕ) (o : Option ℕ) (go_on : World → List ℕ → List ℕ) → o ≡ Some p → may_go w p ≡ true
     → entries_with sc w queue at o go_on ≡ p ∷ go_on (choice sc w p).world (queued (remove queue at) p (choice sc w p))
@@ -121,14 +104,14 @@ module _ (tree : PProgram) (code : Code) (pick : Pick) (faithful : Faithful tree
       (queued (remove (waiting_after pick runs) (pick (length (waiting_after pick runs)) (length g))) p (choice (scopes_of tree) was.world p))) back.1
       ∙ ap (λ (q : List ℕ). p ∷ turns_from (scopes_of tree) pick n (length g + 1) w q)
       (queued_is (choice (scopes_of tree) was.world p) w code entered.quiet b (remove (waiting_after pick runs) (pick (length (waiting_after pick runs)) (length g))) p back.1 released started
-      (may_same code w b p shows)) in
+      (may_both code w b p shows)) in
       let count : length (p ∷ g) + n ≡ length g + suc n = omega arith in
       let last : length g + 1 ≡ length {A = ℕ} (p ∷ g) = omega arith in
       ap (λ (k : ℕ). turns_from (scopes_of tree) pick k 0 (start (scopes_of tree)) (1 ∷ [])) count
       ∙ turns_on runs picked.0 was.world was.is (suc n)
       ∙ ap (λ (xs : List ℕ). reverse g ++ xs) next
       ∙ sym (append_assoc (reverse g) (p ∷ []) (turns_from (scopes_of tree) pick n (length g + 1) w (waiting_after pick (entry runs entered))))
-      ∙ ap (λ (xs : List ℕ). xs ++ turns_from (scopes_of tree) pick n (length g + 1) w (waiting_after pick (entry runs entered))) (sym (reverse-cons p g))
+      ∙ ap (λ (xs : List ℕ). xs ++ turns_from (scopes_of tree) pick n (length g + 1) w (waiting_after pick (entry runs entered))) (sym (reverse_cons p g))
       ∙ ap (λ (k : ℕ). reverse (p ∷ g) ++ turns_from (scopes_of tree) pick n k w (waiting_after pick (entry runs entered))) last
 
   by_turns : (h counts : List ℕ) (img : Image) (runs : Runs code h counts img) → ArePicked pick runs → turns tree pick (length h) ≡ reverse h

@@ -22,6 +22,7 @@ use Rattle.b67_outcomes_all.specs.Outcomes.{IsReplayed, Confirms, IsHistoryTold,
 use Rattle.b67_outcomes_all.specs.Outcomes as all
 use Rattle.b67_outcomes_all.proofs.Outcomes.{told_are_all}
 use Rattle.b67_outcomes_all.proofs.Kept.{histories_told}
+use Rattle.b67_list.proofs.Truths.{or_either}
 use Rattle.b67_explorer.specs.Cells.{IsLocalThere}
 use Rattle.b67_explorer.specs.declared.explored.Explored.{Explored}
 use Rattle.b67_explorer.specs.Texts.{IsTextOf}
@@ -34,11 +35,6 @@ neither : (a b : Bool) → (a || b) ≡ false → (a ≡ false) × (b ≡ false)
 neither false false e = (refl, refl)
 neither false true e = absurd (true≢false e)
 neither true b e = absurd (true≢false e)
-
-either : (a b : Bool) → (a || b) ≡ true → (a ≡ true) ⊎ (b ≡ true)
-either true b e = inl refl
-either false true e = inr refl
-either false false e = absurd (true≢false (sym e))
 
 confirms : (tree : PProgram) (code : Code) → Faithful tree code → (x : Told) → IsConfirmed Explains code x → Confirms tree x.schedule x.outcome
 confirms tree code f x c = record { replayed = c.explained tree f; own = c.own }
@@ -74,7 +70,7 @@ assembled tree code most found book explored f x whole b cause told t =
         closed = closed_or (found.cut) refl histories.0 histories.1;
         told = told_or (book.cut) refl histories.0 histories.1;
         all = λ e. let both = neither found.cut book.cut e in told_are_all tree code found book.told.items f (whole both.0) (told both.1);
-        cause = λ e. by (either found.cut book.cut e) histories.0 histories.1;
+        cause = λ e. by (or_either found.cut book.cut e) histories.0 histories.1;
       };
       text_is = t.text ∙ ap (λ (z : List ℕ). head_text (length book.told.items) (found.cut || book.cut) (length found.states.items) ++ z) b.text;
       cut_is = t.cut;

@@ -23,8 +23,8 @@ use Rattle.b67_table.specs.Sound.{Sound}
 use Rattle.b67_table.specs.Table.{table, length_in}
 use Rattle.b67_table.specs.Valid.{IsValid}
 use Rattle.b67_table.proofs.FirstValid.{first_is_valid}
-use Rattle.b67_table.proofs.Lists.{numbered_from}
 use Rattle.b67_table.proofs.Waking.{able_live}
+use Rattle.b67_table.proofs.Cited.{may_able}
 use Rattle.b67_cores.specs.Cores.{size}
 use Rattle.b67_cores.proofs.Counting.{plains_few}
 use Rattle.b67_cores.proofs.Having.{valid_images_have_cores}
@@ -48,7 +48,7 @@ use Rattle.b67_outcomes.specs.Entering.{IsReached, ProcessEnters, Repeats, again
 use Rattle.b67_outcomes.proofs.Determined.{no_entry}
 use Rattle.b67_outcomes.proofs.Repeating.{led_repeats, left_over}
 use Rattle.b67_explorer.specs.Entries.{entered_by, most_operators, EntriesFit, HasCome, IsAtLimit, IsLimitEnd}
-use Rattle.b67_explorer.proofs.Performed.{entered_as, is_able_there, repeated}
+use Rattle.b67_explorer.proofs.Performed.{entered_as, repeated}
 
 -- ---- plain operators
 
@@ -77,21 +77,13 @@ plains_short code img quiet p n v able plains =
 
 -- ---- an end
 
-goes_there : (img : Image) (p : ℕ) → may_act img p ≡ true → image_end img ≡ None
+pub goes_there : (img : Image) (p : ℕ) → may_act img p ≡ true → image_end img ≡ None
 unfolding may_act
 goes_there img p e = by (image_end img) e
   where
     by : (o : Option ImageEnd) → goes_on o (is_able (numbered img.states p)) ≡ true → o ≡ None
     by None f = refl
     by (Some x) f = absurd (true≢false (sym f))
-
--- the number of a process that may act
-pub number_from : (img : Image) (p : ℕ) → may_act img p ≡ true → 1 ≤ p
-number_from img p e = by (numbered img.states p) refl (is_able_there img p e)
-  where
-    by : (o : Option ProcessState) → numbered img.states p ≡ o → is_able o ≡ true → 1 ≤ p
-    by (Some s) at able = numbered_from img.states p s at
-    by None at able = absurd (true≢false (sym able))
 
 -- a machine with room, on which a process may act, has none
 pub has_no_end : (m : MachineModel) (p more : ℕ) → may_act m.image p ≡ true → EntriesFit m more → machine_end m ≡ None
@@ -109,7 +101,7 @@ limit_is m p end e at = subst (λ (o : Option End). IsLimitEnd o) (sym (e ∙ li
 module _ (old : MachineModel) (p most : ℕ) (performed : Performed) (new : MachineModel) (valid : IsValid old.code old.image) (may : may_act old.image p ≡ true)
     (k : MachinePerforms old p most performed new) where
   able : is_able (numbered old.image.states p) ≡ true
-  able = is_able_there old.image p may
+  able = may_able old.image p may
 
   pub few : performed.plain ≤ 6 * MOST_SEGMENT_WORDS
   few = plains_short old.code old.image k.between.image p performed.plain valid able k.plains.performed

@@ -1,5 +1,5 @@
 -- From a replay on the machine to the outcome that it comes to.
-use Rattle.std.proofs.Common.{◌≡◌, ◌≢◌, refl, sym, ap, subst, ◌∙◌, ℕ, zero, suc, ◌+◌, ◌-◌, ◌≤◌, Bool, true, false, true≢false, List, [], ◌∷◌, ◌++◌, reverse, Option, Some, None, inl, inr, arith}
+use Rattle.std.proofs.Common.{◌≡◌, ◌≢◌, refl, sym, ap, subst, ◌∙◌, ℕ, zero, suc, ◌+◌, ◌-◌, false, List, [], ◌∷◌, ◌++◌, reverse, Option, Some, None, inl, inr, arith}
 use Rattle.std.specs.Prelude.{◌⊎◌, replicate, sum}
 use Rattle.std.proofs.lemmas.List.{reverse-reverse}
 use Rattle.std.proofs.lemmas.List.Sums.{sum_by-cons}
@@ -10,12 +10,12 @@ use Rattle.b67_deeds.specs.declared.Letter.{Letter}
 use Rattle.algol_tree.specs.Plain.{PProgram}
 use Rattle.algol_meaning.specs.World.{World}
 use Rattle.b67_segment.specs.declared.code.Code.{Code}
-use Rattle.b67_table.specs.declared.ProcessState.{ProcessState}
-use Rattle.b67_table.specs.Image.{Image, is_able}
-use Rattle.b67_table.specs.Ending.{ImageEnd, image_end, may_act, goes_on}
+use Rattle.b67_table.specs.Image.{Image}
+use Rattle.b67_table.specs.Ending.{ImageEnd, image_end, may_act}
 use Rattle.b67_table.specs.Ending as ending
 use Rattle.b67_table.specs.Table.{length_in}
 use Rattle.b67_table.specs.Runs.{Runs, Plains, stay, go, Tails, none, next}
+use Rattle.b67_table.proofs.Cited.{may_parts}
 use Rattle.b67_schedule.specs.declared.reading.Given.{Given}
 use Rattle.b67_schedule.specs.declared.reading.Given.TheVariants.{One, Two}
 use Rattle.b67_schedule.specs.Giving.{given_entries}
@@ -29,17 +29,20 @@ use Rattle.b67_machine.specs.declared.replay.Replayed.{Replayed}
 use Rattle.b67_machine.specs.declared.replay.Replayed.TheVariants.{Ended, Ran, Illegal, BudgetSpent, NoMemory, Differs}
 use Rattle.b67_machine.specs.Kept.{MachineModel}
 use Rattle.b67_machine.specs.Reads.{end_shown, machine_end_by, limit_end, machine_end}
-use Rattle.b67_machine.specs.Replaying.{tails_of, MayGo, ReplayAtLimit, IsIllegal, ReplayAnswers, MachineStands, is_lacking, NoneDiffers, AgreeAs, letters_of, ReplaysEntries, Replays}
+use Rattle.b67_machine.specs.Replaying.{tails_of, MayGo, ReplayAtLimit, IsIllegal, ReplayAnswers, is_lacking, NoneDiffers, AgreeAs, letters_of, ReplaysEntries, Replays}
+use Rattle.b67_machine.proofs.Entering.{one_of_able}
 use Rattle.b67_faithful.specs.Faithful.{Faithful}
 use Rattle.b67_listing.specs.Listings.{ListingText}
 use Rattle.algol_laws.proofs.Growing.{each_grows}
 use Rattle.b67_explain.specs.Telling.{words_of_end, EndTells, IsReportOf}
 use Rattle.b67_explain.proofs.Explained.{replay_explained}
+use Rattle.b67_explain.proofs.Tailed.{sum_zeros}
 use Rattle.b67_outcomes.specs.Entering.{HistoryLeadsTo, Stops}
 use Rattle.b67_told.specs.declared.Outcome.{Outcome}
 use Rattle.b67_told.specs.Telling.{IsOfOne}
 use Rattle.b67_teller.specs.Following.{IsLong, NextGoes, NextIsIllegal, EndsBy, Followed}
 use Rattle.b67_outcomes_all.specs.Outcomes.{IsReplayed}
+use Rattle.b67_stands.proofs.Showing.{shows_is}
 
 -- ---- tails
 
@@ -54,10 +57,6 @@ no_tails code q a b ts (next {n = n} {b = c} {tails = rest} plains after) e =
     let s = sum_by-cons (λ (x : ℕ). x) n rest in
     no_plains code q n a c plains (omega (arith, s, e)) ∙ no_tails code (q + 1) c b rest after (omega (arith, s, e))
 
-sum_zeros : (k n : ℕ) → sum (replicate k 0 ++ n ∷ []) ≡ n
-sum_zeros zero n = let s = sum_by-cons (λ (x : ℕ). x) n [] in omega (arith, s)
-sum_zeros (suc k) n = let s = sum_by-cons (λ (x : ℕ). x) 0 (replicate k 0 ++ n ∷ []) in omega (arith, s, sum_zeros k n)
-
 -- the operators of one process
 one_tail : (code : Code) (k q n : ℕ) (a b : Image) → Tails code q a (replicate k 0 ++ n ∷ []) b → Plains code (q + k) a n b
 one_tail code zero q n a b (next plains none) =
@@ -69,18 +68,6 @@ one_tail code (suc k) q n a b (next {b = c} plains after) =
 
 -- ---- ends
 
-no_end : (o : Option ImageEnd) (able : Bool) → goes_on o able ≡ true → (o ≡ None) × (able ≡ true)
-no_end None able e = (refl, e)
-no_end (Some x) able e = absurd (true≢false (sym e))
-
-acting : (img : Image) (p : ℕ) → may_act img p ≡ true → (image_end img ≡ None) × (is_able (numbered img.states p) ≡ true)
-unfolding may_act
-acting img p e = no_end (image_end img) (is_able (numbered img.states p)) e
-
-one_of_able : (ss : List ProcessState) (p : ℕ) → is_able (numbered ss p) ≡ true → 1 ≤ p
-one_of_able ss zero e = cc
-one_of_able ss (suc k) e = omega arith
-
 not_lacking : (answer : Replayed) (o : Option End) (end : EndWords) → EndTells answer o end → is_lacking answer ≡ false
 not_lacking Ended o end tells = refl
 not_lacking Ran o end tells = refl
@@ -88,10 +75,6 @@ not_lacking (Illegal number) o end tells = refl
 not_lacking BudgetSpent o end tells = refl
 not_lacking NoMemory o end tells = absurd tells
 not_lacking (Differs number) o end tells = refl
-
-stands_there : (lacking : Bool) (img now : Image) → lacking ≡ false → MachineStands lacking img now → now ≡ img
-stands_there false img now e s = s
-stands_there true img now e s = absurd (true≢false e)
 
 -- ---- a replay
 
@@ -101,7 +84,7 @@ module _ (tree : PProgram) (code : Code) (f : Faithful tree code) (given : List 
   before = r.run.before_tails
 
   same : m.image ≡ r.image
-  same = stands_there (is_lacking answer) r.image m.image (not_lacking answer (machine_end m) end tells) r.stands
+  same = shows_is (is_lacking answer) r.image m.image (not_lacking answer (machine_end m) end tells) r.stands
 
   run_of : Runs code (reverse done) r.run.counts before
   run_of = subst (λ (h : List ℕ). Runs code h r.run.counts before) (sym (ap reverse r.run.order ∙ reverse-reverse r.run.history)) r.run.runs
@@ -138,7 +121,7 @@ module _ (tree : PProgram) (code : Code) (f : Faithful tree code) (given : List 
       → EndsBy code given left before end
   at_limit [] after goes at told = absurd goes
   at_limit (p ∷ left) after goes at told =
-      let acts = acting r.image p goes in
+      let acts = may_parts r.image p goes in
       let one = one_of_able r.image.states p acts.1 in
       let there : machine_end m ≡ Some (machine_ends.StackLimit p (length_in (numbered m.image.regs p))) =
       ap (λ (o : Option ImageEnd). machine_end_by o m) (ap image_end same ∙ acts.0) ∙ ap (λ (o : Option ℕ). limit_end o m.image.regs) at.1 in
@@ -160,7 +143,7 @@ module _ (tree : PProgram) (code : Code) (f : Faithful tree code) (given : List 
   goes_on_by [] after (inr goes) = absurd goes
   goes_on_by (p ∷ left) after (inl e) = (before, subst (λ (n : ℕ). Plains code p before n before) (sym e) stay)
   goes_on_by (p ∷ left) after (inr goes) =
-      let acts = acting r.image p goes in
+      let acts = may_parts r.image p goes in
       let one = one_of_able r.image.states p acts.1 in
       let numbers : 1 + (p - 1) ≡ p = omega (arith, one) in
       (r.image, subst (λ (q : ℕ). Plains code q before r.tail r.image) numbers (one_tail code (p - 1) 1 r.tail before r.image after))

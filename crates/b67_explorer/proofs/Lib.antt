@@ -1,5 +1,5 @@
 mod Performed
-mod Fitting
+pub mod Fitting
 mod Followed
 mod Owned
 mod Touched

@@ -158,15 +158,6 @@ pub repeats_number : (code : Code) (p k last : ℕ) (a b : Image) → 1 ≤ k �
     → ((q : ℕ) → may_act a q ≡ true → (1 ≤ q) × (q ≤ last)) → IsProcessNumber p
 repeats_number code p k last a b some r few all = let one = all p (first_may code p k a b some r) in (one.0, omega (arith, one.1, few))
 
--- a process that may act is able
-pub is_able_there : (img : Image) (p : ℕ) → may_act img p ≡ true → is_able (numbered img.states p) ≡ true
-unfolding may_act
-is_able_there img p e = by (image_end img) e
-  where
-    by : (o : Option ImageEnd) → goes_on o (is_able (numbered img.states p)) ≡ true → is_able (numbered img.states p) ≡ true
-    by None f = f
-    by (Some x) f = absurd (true≢false (sym f))
-
 -- a process may act where the image has no end and it is able
 pub may_then : (img : Image) (p : ℕ) (end : Option End) (none able : Bool) → is_some end ≡ not none → none ≡ true → end ≡ shown_end (image_end img)
     → able ≡ is_able (numbered img.states p) → able ≡ may_act img p

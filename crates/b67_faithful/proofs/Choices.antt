@@ -1,9 +1,10 @@
 -- Whom a choice starts and whom it releases, by what the head asks for.
 use Rattle.std.proofs.Common.{◌≡◌, refl, sym, ap, ◌∙◌, ℕ, zero, suc, ◌+◌, ◌≤◌, List, [], ◌∷◌, ◌++◌, length, Option, Some, None, Bool, true, false, arith}
-use Rattle.std.specs.Prelude.{if◌then◌else◌, nat_lt, slice_set, ◌==◌}
+use Rattle.std.specs.Prelude.{if◌then◌else◌, nat_lt, ◌==◌}
 use Rattle.std.proofs.lemmas.Bool.Decides.{nat_tests}
 use Rattle.std.proofs.lemmas.List.{length-append}
 use Rattle.b67_list.specs.Numbered.{set_numbered}
+use Rattle.b67_list.proofs.Lists.{length_set}
 use Rattle.b67_num.specs.declared.FaultKind.{FaultKind}
 use Rattle.b67_num.specs.declared.FaultKind.TheVariants as fault
 use Rattle.b67_deeds.specs.declared.EventTest.{EventTest}
@@ -33,11 +34,6 @@ use Rattle.algol_meaning.specs.Choice as choices
 use Rattle.b67_letters.specs.Releases.{started_between}
 
 -- ---- lists by number
-
-length_set : {A : Type 0} (xs : List A) (k : ℕ) (y : A) → length (slice_set xs k y) ≡ length xs
-length_set [] k y = refl
-length_set (z ∷ zs) zero y = refl
-length_set (z ∷ zs) (suc k) y = ap suc (length_set zs k y)
 
 pub length_set_numbered : {A : Type 0} (xs : List A) (p : ℕ) (y : A) → length (set_numbered xs p y) ≡ length xs
 length_set_numbered xs zero y = refl
@@ -150,9 +146,6 @@ module _ (sc : Scopes) (w : World) (p : ℕ) (q : Process) (part : Part) (outer 
 
   stops_stays : (action : Letter) (after : World) (s : State) → many after ≡ many w → Stays (choices.stops sc w p q part outer action after s)
   stops_stays action after s e = record { none = refl; same = set after _ e }
-
-  opens_stays : (after : World) (inner : Part) → many after ≡ many w → Stays (choices.opens sc w p q part outer after inner)
-  opens_stays after inner e = record { none = refl; same = set after _ e }
 
   releasing_stays : (action : Letter) (x : Released) (a : Answer) → many x.world ≡ many w → Stays (choices.goes_releasing sc w p q part outer action x a)
   releasing_stays action x a e = record { none = refl; same = set x.world _ e }

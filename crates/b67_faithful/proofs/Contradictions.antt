@@ -1,16 +1,10 @@
 -- What two equations of one value say of each other.
-use Rattle.std.proofs.Common.{◌≡◌, Some, None, Bool, true, false}
+use Rattle.std.proofs.Common.{◌≡◌, Some}
 use Rattle.b67_num.specs.declared.FaultKind.{FaultKind}
 use Rattle.b67_table.specs.Outcome.{Outcome, gives, faults}
 
-pub true_false : {B : Type 0} {x : Bool} → x ≡ true → x ≡ false → B
-true_false e f = cc
-
 pub some_same : {A : Type 0} {x y : A} → Some x ≡ Some y → x ≡ y
 some_same e = cc
-
-pub none_some : {A B : Type 0} {x : A} → None ≡ Some x → B
-none_some e = cc
 
 pub gives_same : {A : Type 0} {a b : A} {e : Outcome A} → e ≡ gives a → e ≡ gives b → a ≡ b
 gives_same x y = cc

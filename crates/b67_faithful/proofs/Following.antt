@@ -9,6 +9,7 @@ use Rattle.algol_meaning.specs.World.{World}
 use Rattle.b67_deeds.specs.declared.Letter.{Letter}
 use Rattle.algol_meaning.specs.Choice.{choice}
 use Rattle.algol_meaning.specs.Run.{start, run, Legal, may_go}
+use Rattle.algol_meaning.proofs.Cited.{entry_after}
 use Rattle.b67_segment.specs.declared.code.Code.{Code}
 use Rattle.b67_table.specs.Image.{Image}
 use Rattle.b67_table.specs.Ending.{failed}
@@ -24,7 +25,7 @@ use Rattle.b67_faithful.specs.Correspondence.{action_in, released_in, started_in
 use Rattle.b67_faithful.specs.Faithful.{ComesToLimit, CodeFollows}
 use Rattle.b67_faithful.specs.Simulation.{Simulates, Acted, ProcessComes, acts, stops}
 use Rattle.b67_faithful.proofs.Contradictions.{some_same}
-use Rattle.b67_faithful.proofs.Sources.{reverse-cons, entered, entered_back, run-later, before}
+use Rattle.b67_faithful.proofs.Sources.{reverse_cons, entered_back, run_later, before}
 use Rattle.b67_faithful.proofs.Ways.{may_follow, may_lead}
 use Rattle.b67_faithful.proofs.Choices.{none_added, starts_who_is_added}
 
@@ -56,7 +57,7 @@ module _ (tree : PProgram) (code : Code) (Pictures : World → Image → Type 0)
       let acted = sim.act w e.quiet b p quiet (may_follow code w e.quiet (sim.shows w e.quiet quiet) p may) e.action in
       record {
         world = (choice (scopes_of tree) w p).world;
-        is = run-later tree h p w ((choice (scopes_of tree) w p).world) so_far.is (entered (scopes_of tree) w p may);
+        is = run_later tree h p w ((choice (scopes_of tree) w p).world) so_far.is (entry_after (scopes_of tree) w p may);
         pictures = acted.pictures;
       }
 
@@ -133,7 +134,7 @@ module _ (tree : PProgram) (code : Code) (Pictures : World → Image → Type 0)
         before = c.before;
         next = c.next;
         later = c.later ++ p ∷ [];
-        split = reverse-cons p h ∙ ap (λ (s : List ℕ). s ++ p ∷ []) c.split ∙ append_assoc c.before (c.next ∷ c.later) (p ∷ []);
+        split = reverse_cons p h ∙ ap (λ (s : List ℕ). s ++ p ∷ []) c.split ∙ append_assoc c.before (c.next ∷ c.later) (p ∷ []);
         image = c.image;
         run = c.run;
         plain = c.plain;
@@ -155,7 +156,7 @@ module _ (tree : PProgram) (code : Code) (Pictures : World → Image → Type 0)
       by_coming {counts} {img} runs v pic may (acts {n} {quiet} {after} l x) =
           whole ((n + 1) ∷ counts) after (entry runs (record { may = may_follow code v img (sim.shows v img pic) p may; quiet = quiet; plains = l; action = x }))
       by_coming {counts} {img} runs v pic may (stops {n} {quiet} l x) =
-          limited (record { before = reverse h; next = p; later = []; split = reverse-cons p h; image = img; run = run_of runs; plain = n; quiet = quiet; plains = l; stops = x })
+          limited (record { before = reverse h; next = p; later = []; split = reverse_cons p h; image = img; run = run_of runs; plain = n; quiet = quiet; plains = l; stops = x })
 
       go_on : Performed h → (v : World) → run tree (reverse h) ≡ Some v → may_go v p ≡ true → Performed (p ∷ h)
       go_on (limited c) v is may = limited (longer h p c)

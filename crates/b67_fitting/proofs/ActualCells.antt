@@ -12,8 +12,9 @@ use Rattle.algol_tree.specs.Plain.{PExpr, PExprs, PPair, PStmt, PStmts, PDecls}
 use Rattle.algol_tree.specs.Sites.{first_formal, other_formals}
 use Rattle.algol_tree.specs.Sorts.{Declared}
 use Rattle.algol_tree.specs.Surroundings.{Surroundings, formals_at, knowing}
+use Rattle.b67_list.proofs.Lists.{each_both}
 use Rattle.b67_fitting.proofs.Frames.{plain, control_cell, decl_cells}
-use Rattle.b67_fitting.proofs.Lists.{each_both, each_of, filter_none, filter_every}
+use Rattle.b67_fitting.proofs.Lists.{each_of, filter_none, filter_every}
 
 abbrev pub actual_cell : ℕ → PExpr → Cell
 actual_cell block e = record { block = block; spot = first_spot e; content = cells.actual }

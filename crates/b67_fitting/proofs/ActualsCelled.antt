@@ -15,12 +15,14 @@ use Rattle.algol_tree.specs.Plain as tree
 use Rattle.algol_tree.specs.Plain.{PDecls}
 use Rattle.algol_tree.specs.Scopes.{Scopes}
 use Rattle.algol_tree.specs.Sites.{Site, sites_in_decls, sites_in_stmts}
+use Rattle.algol_tree.proofs.Spots.{same_spot_is, same_spot_itself}
 use Rattle.b67_templates.specs.Cells.{Simple, procedures, Actual, actuals_of, actuals_in_decls, actuals_in_stmts, actual_base}
 use Rattle.b67_templates.specs.Fitting.{Told}
+use Rattle.b67_list.proofs.Lists.{each_back, each_both, each_front}
 use Rattle.b67_fitting.proofs.ActualCells.{actual_cell, cells_in_bounds, cells_in_stmts}
 use Rattle.b67_fitting.proofs.ActualsFound.{SiteTells, cells_for as cells_of_actuals, joined, acts_stmts, acts_decls}
 use Rattle.b67_fitting.proofs.Among.{Among, nothing, skip, keep, apart_among}
-use Rattle.b67_fitting.proofs.Apart.{IsIn, each_in, in_each, in_map, in_front, in_back, IsApart, Apart, same_place, apart_sym}
+use Rattle.b67_fitting.proofs.Apart.{IsIn, each_in, in_each, in_map, in_front, in_back, IsApart, Apart, apart_sym}
 use Rattle.b67_fitting.proofs.Blocked.{block_spots, numbered, HasCells}
 use Rattle.b67_fitting.proofs.Coupled.{IsProgram, AreTold, scopes, acts_of, act_far, frame_of, simples_of, coupled, holds, of_actual}
 use Rattle.b67_fitting.proofs.CoupledArrays.{HaveActs}
@@ -29,11 +31,9 @@ use Rattle.b67_fitting.proofs.Framing.{variable_cell, in_filter, simple_is}
 use Rattle.b67_fitting.proofs.FramingArrays.{actual_index}
 use Rattle.b67_fitting.proofs.Known.{given_places, variable_spots, headings}
 use Rattle.b67_fitting.proofs.Listed.{has_own_place}
-use Rattle.b67_fitting.proofs.Lists.{each_front, each_back, each_both}
 use Rattle.b67_fitting.proofs.LowsFound.{placed, act_placed, acts_past}
 use Rattle.b67_fitting.proofs.Made.{one_there, in_kept}
 use Rattle.b67_fitting.proofs.Placed.{IsCelled, AreCelled, Actuals}
-use Rattle.b67_fitting.proofs.Numbering.{same_self}
 
 -- ---- lists
 
@@ -82,7 +82,7 @@ index_at : (cs : List Cell) (k : ℕ) (c : Cell) → slice_get cs k ≡ Some c �
 index_at [] k c e p j = absurd (let clash : None ≡ Some c = e in cc)
 index_at (d ∷ cs) zero c e p j =
     let same : d ≡ c = cc in
-    ap (λ (b : Bool). if b then Some j else index_from (j + 1) cs c.spot) (ap (λ (z : Cell). same_spot z.spot c.spot) same ∙ same_self c.spot)
+    ap (λ (b : Bool). if b then Some j else index_from (j + 1) cs c.spot) (ap (λ (z : Cell). same_spot z.spot c.spot) same ∙ same_spot_itself c.spot)
     ∙ ap (λ (n : ℕ). Some n) (let none : j ≡ j + 0 = omega arith in none)
 index_at (d ∷ cs) (suc k) c e p j =
     let far : IsApart d.spot c.spot = each_in (IsApart d.spot) c.spot (spots_of cs) p.0 (in_map (λ (z : Cell). z.spot) c cs (got_in cs k c e)) in
@@ -97,9 +97,9 @@ couple_found blocks all (d ∷ cs) c i f = by (same_spot d.spot c.spot) refl i (
   where
     by : (b : Bool) → same_spot d.spot c.spot ≡ b → IsIn c (d ∷ cs) → (IsIn c cs → couple_of_cells blocks all cs c.spot ≡ couple_in blocks all c.block c.spot) →
         (if b then couple_in blocks all d.block c.spot else couple_of_cells blocks all cs c.spot) ≡ couple_in blocks all c.block c.spot
-    by true e j later = ap (λ (z : Cell). couple_in blocks all z.block c.spot) (f d (inl refl) (same_place d.spot c.spot e))
+    by true e j later = ap (λ (z : Cell). couple_in blocks all z.block c.spot) (f d (inl refl) (same_spot_is d.spot c.spot e))
     by false e (inl same) later =
-        let clash : true ≡ false = sym (same_self c.spot) ∙ ap (λ (z : Cell). same_spot z.spot c.spot) same ∙ e in
+        let clash : true ≡ false = sym (same_spot_itself c.spot) ∙ ap (λ (z : Cell). same_spot z.spot c.spot) same ∙ e in
         absurd cc
     by false e (inr j) later = later j
 

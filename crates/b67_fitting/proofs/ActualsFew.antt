@@ -19,20 +19,21 @@ use Rattle.algol_tree.specs.Sites.{Site, here, sites, first_formal, other_formal
 use Rattle.algol_tree.specs.Sorts as sort
 use Rattle.algol_tree.specs.Sorts.{Sort, Declared, Parameter, is_named_in, procedure_in, formals_of}
 use Rattle.algol_tree.specs.Surroundings.{Surroundings, class_of, class_of_declared, formals_of_class, formals_at, declared_as, knowing, inside_procedure}
+use Rattle.algol_tree.proofs.Trees.{use_is}
 use Rattle.algol_meaning.specs.Settle.{block_of_sort}
 use Rattle.b67_templates.specs.Cells.{Simple, Wanted, value, by_name, array, event, other, parameter_cells, parameter_wants, parameters_around, Actual, own_actual, wants_of, actuals_in, actuals_among, actuals_given, actuals_in_pairs, actuals_in_stmt, actuals_in_stmts}
 use Rattle.b67_templates.specs.Fitting.{wanted_by_name}
+use Rattle.b67_list.proofs.Lists.{append_none_left, each_back, each_both, each_front}
 use Rattle.b67_fitting.proofs.Headings.{DeclsSpecified, StmtSpecified, StmtsSpecified}
 use Rattle.b67_templates.specs.Nested as told
 use Rattle.b67_templates.specs.Nested.{CellIsTold, AreTold, AreParameters}
 use Rattle.b67_fitting.proofs.ActualCells.{actual_cell}
 use Rattle.b67_fitting.proofs.Callees.{IsCallee}
 use Rattle.b67_fitting.proofs.CellsFew.{cells_both, FewBounds}
-use Rattle.b67_fitting.proofs.Lists.{each_front, each_back, each_both, nil_front}
 use Rattle.b67_fitting.proofs.Numbering.{IsThere}
 use Rattle.b67_fitting.proofs.ParametersTold.{as_parameter}
 use Rattle.b67_fitting.proofs.Specified.{IsSpecified, as_value, as_name, as_array, as_event, AreSpecified, specified}
-use Rattle.b67_fitting.proofs.Surrounded.{Means, a_variable, a_name, a_file, an_array, a_formal, a_procedure, an_event, a_formal_event, a_task, a_label, IsAround, use_is, the_use, known_as, IsGood, AreGood, actual_good}
+use Rattle.b67_fitting.proofs.Surrounded.{Means, a_variable, a_name, a_file, an_array, a_formal, a_procedure, an_event, a_formal_event, a_task, a_label, IsAround, the_use, known_as, IsGood, AreGood, actual_good}
 use Rattle.b67_fitting.proofs.Typed.{as_formal}
 
 -- ---- what procedures want by name
@@ -275,7 +276,7 @@ module _ (sc : Scopes) (each : (k : ℕ) → k < length sc.blocks → AreParamet
     started_good n es task l g =
         record {
           there = each_both (IsThere sc.uses) (used a n) [] (each_front (IsThere sc.uses) (used a n) (flat_map (used a) (if_named task)) g.there) tt;
-          known = ap (λ (z : List Spot). z ++ []) (nil_front (if_so (not (is_some (declared_as a n))) n.spot) _ g.known);
+          known = ap (λ (z : List Spot). z ++ []) (append_none_left (if_so (not (is_some (declared_as a n))) n.spot) _ g.known);
         }
 
     mutual

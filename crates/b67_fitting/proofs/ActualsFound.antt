@@ -18,11 +18,11 @@ use Rattle.algol_tree.specs.Sorts.{Declared, procedure_in, is_named_in, formals_
 use Rattle.algol_tree.specs.Surroundings.{Surroundings, class_of, formals_of_class, formals_at, knowing}
 use Rattle.algol_tree.specs.Types.{taken_by}
 use Rattle.b67_templates.specs.Cells.{Wanted, by_name, Actual, own_actual, wants_of, actuals_in, actuals_among, actuals_given, actuals_in_pairs, actuals_in_decls, actuals_in_stmt, actuals_in_stmts}
+use Rattle.b67_list.proofs.Lists.{each_back, each_front}
 use Rattle.b67_fitting.specs.Typing.{TypedStmt, TypedStmts, TypedDecls, IsOf, TypedExpr, TypedActual, TypedActuals, TypedLine, TypedPairs}
 use Rattle.b67_fitting.proofs.ActualCells.{actual_cell, cell_given, cells_in, cells_among, cells_given, cells_in_pairs, cells_in_stmt, cells_in_stmts, cells_in_bounds}
 use Rattle.b67_fitting.proofs.Given.{wants_in}
 use Rattle.b67_fitting.proofs.Listed.{reads_in}
-use Rattle.b67_fitting.proofs.Lists.{each_front, each_back}
 use Rattle.b67_fitting.proofs.Specified.{IsSpecified, as_value, as_name, as_array, as_event, AreSpecified, specified}
 use Rattle.b67_fitting.proofs.Typed.{as_formal, actual_part_is}
 use Rattle.b67_fitting.proofs.Wanting.{wanted_of, wanted_value, wanted_name, wanted_array, wanted_event}

@@ -14,11 +14,11 @@ use Rattle.algol_tree.specs.Plain as tree
 use Rattle.algol_tree.specs.Plain.{PDecls}
 use Rattle.algol_tree.specs.Sorts as sort
 use Rattle.algol_tree.specs.Sorts.{same_name, Declared, look_up, declare}
+use Rattle.algol_tree.proofs.Spots.{same_spot_is, same_spot_itself}
 use Rattle.b67_templates.specs.Cells.{Simple, Wanted, value, of_kind, result_cells_of, procedures, found_from}
-use Rattle.b67_fitting.proofs.Apart.{IsIn, each_in, IsApart, Apart, same_place}
+use Rattle.b67_fitting.proofs.Apart.{IsIn, each_in, IsApart, Apart}
 use Rattle.b67_fitting.proofs.Declaring.{IsOther}
 use Rattle.b67_fitting.proofs.Frames.{control_cells, result_cell}
-use Rattle.b67_fitting.proofs.Numbering.{same_self}
 
 -- ---- numbers
 
@@ -141,13 +141,13 @@ control block (tree.decls (tree.procedure h s) ds) spot i = by (same_spot h.name
           number = 0;
           declared = h.name;
           there = refl;
-          spot_is = same_place h.name.spot spot e;
+          spot_is = same_spot_is h.name.spot spot e;
           index =
               λ n.
               ap (λ (b : Bool). if b then Some n else index_from (n + 1) (control_cells block ds) spot) e
               ∙ ap (λ (m : ℕ). Some m) (let same : n ≡ n + 0 = omega arith in same);
         }
-    by false later e (inl same) = absurd (let clash : true ≡ false = sym (same_self spot) ∙ ap (λ (t : Spot). same_spot t spot) same ∙ e in cc)
+    by false later e (inl same) = absurd (let clash : true ≡ false = sym (same_spot_itself spot) ∙ ap (λ (t : Spot). same_spot t spot) same ∙ e in cc)
     by false later e (inr j) = more (later j) e
 control block (tree.decls d ds) spot i =
     let r = control block ds spot i in
@@ -183,7 +183,7 @@ module _ (block depth : ℕ) where
               cell = record { name = n.name; wanted = value kind };
               found = ap (λ (b : Bool). if b then Some (record { number = i; cell = record { name = n.name; wanted = value kind } }) else found_from (i + 1) (of_kind kind ns ++ xs) name) h;
               wanted_is = refl;
-              index = ap (λ (b : Bool). if b then Some j else index_from (j + 1) (cells_for block cells.variable ns ++ cs) n.spot) (same_self n.spot) ∙ ap Some e;
+              index = ap (λ (b : Bool). if b then Some j else index_from (j + 1) (cells_for block cells.variable ns ++ cs) n.spot) (same_spot_itself n.spot) ∙ ap Some e;
             };
       }
 

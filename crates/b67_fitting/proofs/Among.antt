@@ -2,8 +2,8 @@
 use Rattle.std.proofs.Common.{◌⊎◌, inl, inr, List, [], ◌∷◌, ◌++◌, sym, subst, append-nil, append_assoc}
 use Rattle.std.specs.List.{AllByRecursion}
 use Rattle.algol_tree.specs.declared.token.Spot.{Spot}
+use Rattle.b67_list.proofs.Lists.{each_back, each_both, each_front}
 use Rattle.b67_fitting.proofs.Apart.{IsApart, Apart, IsIn, in_front, in_back, in_either, apart_front, apart_back, apart_across, apart_both, each_turned, apart_turned, in_after}
-use Rattle.b67_fitting.proofs.Lists.{each_front, each_back, each_both}
 
 pub data Among : List Spot → List Spot → Type 0 where
   nothing : Among [] []

@@ -1,14 +1,14 @@
 -- Places that ascend are apart from one another.
-use Rattle.std.proofs.Common.{arith, ◌≡◌, ◌⊎◌, inl, inr, ◌==◌, true, false, List, [], ◌∷◌, ◌++◌, map, refl, sym, ap, ◌∙◌, subst}
-use Rattle.std.proofs.lemmas.Bool.{and_parts, eqb-true}
+use Rattle.std.proofs.Common.{arith, ◌≡◌, ◌⊎◌, inl, inr, true, false, List, [], ◌∷◌, ◌++◌, map, refl, sym, ap, subst}
 use Rattle.std.proofs.lemmas.Bool.Decides.{nat_tests}
 use Rattle.std.specs.List.{flat_map, AllByRecursion}
 use Rattle.algol_tree.specs.declared.token.Spot.{Spot}
 use Rattle.algol_tree.specs.Accepted.{is_before}
 use Rattle.algol_tree.specs.Ascending.{IsAhead, Ascends}
 use Rattle.algol_tree.specs.Blocks.{same_spot}
-use Rattle.b67_fitting.proofs.Lists.{each_front, each_back, each_both, each_of}
-use Rattle.b67_fitting.proofs.Numbering.{before_on}
+use Rattle.algol_tree.proofs.Spots.{before_on}
+use Rattle.b67_list.proofs.Lists.{each_back, each_both, each_front}
+use Rattle.b67_fitting.proofs.Lists.{each_of}
 
 abbrev pub IsIn : {X : Type 0} → X → List X → Type 0
 IsIn x [] = ⊥
@@ -60,11 +60,6 @@ IsApart s t = same_spot s t ≡ false
 abbrev pub Apart : List Spot → Type 0
 Apart [] = Unit {0}
 Apart (s ∷ spots) = AllByRecursion (IsApart s) spots × Apart spots
-
-pub same_place : (s t : Spot) → same_spot s t ≡ true → s ≡ t
-same_place s t h =
-    let parts = and_parts (s.column == t.column) (s.line == t.line) h in
-    ap (λ n. record { line = s.line; column = n }) (eqb-true s.column t.column parts.0) ∙ ap (λ n. record { line = n; column = t.column }) (eqb-true s.line t.line parts.1)
 
 pub apart_sym : (s t : Spot) → IsApart s t → IsApart t s
 apart_sym s t h = grind (arith, nat_tests)

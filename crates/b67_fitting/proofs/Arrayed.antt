@@ -17,14 +17,15 @@ use Rattle.algol_tree.specs.Plain as tree
 use Rattle.algol_tree.specs.Plain.{PPair, PStmt, PDecl, PDecls}
 use Rattle.algol_tree.specs.Sorts as sort
 use Rattle.algol_tree.specs.Sorts.{same_name, Sort, Declared, look_up, declare}
-use Rattle.algol_meaning.proofs.Naming.{same_name-is}
+use Rattle.algol_tree.proofs.Names.{same_name_is}
+use Rattle.algol_tree.proofs.Spots.{same_spot_itself}
+use Rattle.algol_tree.proofs.Trees.{among_behind}
 use Rattle.algol_paths.specs.Arrays.{Made, an_array, an_event, made_in, Lows, shape_in, lows_of, stands_among, lows_in_shape, or_lows, lows_among, lows_declared}
 use Rattle.b67_templates.specs.Cells.{made_name, made_of, made_from}
+use Rattle.b67_list.proofs.Lists.{each_back, each_front}
 use Rattle.b67_fitting.proofs.Apart.{IsIn, each_in, in_back, in_front, in_either, IsApart, Apart, apart_sym, apart_front, apart_from, apart_across}
-use Rattle.b67_fitting.proofs.Declaring.{one_more}
 use Rattle.b67_fitting.proofs.Frames.{made_cells}
-use Rattle.b67_fitting.proofs.Lists.{each_front, each_back, each_of}
-use Rattle.b67_fitting.proofs.Numbering.{same_self}
+use Rattle.b67_fitting.proofs.Lists.{each_of}
 
 -- the places of the arrays
 abbrev pub array_spots : PDecls → List Spot
@@ -93,7 +94,7 @@ made_over names spots (x ∷ xs) ys (c ∷ cs) ds name spot made n i h r =
     by : (b : Bool) → same_name (made_name x) name ≡ b → b ≡ false
     by false e = refl
     by true e =
-        let clash : true ≡ false = sym h.0 ∙ ap (name_is_one_of names) (same_name-is (made_name x) name e) ∙ n in
+        let clash : true ≡ false = sym h.0 ∙ ap (name_is_one_of names) (same_name_is (made_name x) name e) ∙ n in
         clash
 made_over names spots [] ys (c ∷ cs) ds name spot made n i h r = absurd h
 made_over names spots (x ∷ xs) ys [] ds name spot made n i h r = absurd h
@@ -107,7 +108,7 @@ passed_both names spots (x ∷ xs) ys [] ds g h = absurd g
 
 passed_more : (more names : List (List ℕ)) (p q : List Spot) (xs : List Made) (cs : List Cell) → MadePassed names (p ++ q) xs cs → MadePassed (more ++ names) q xs cs
 passed_more more names p q [] [] h = tt
-passed_more more names p q (x ∷ xs) (c ∷ cs) h = (one_more more names (made_name x) h.0, each_back (IsApart c.spot) p q h.1, passed_more more names p q xs cs h.2)
+passed_more more names p q (x ∷ xs) (c ∷ cs) h = (among_behind more names (made_name x) h.0, each_back (IsApart c.spot) p q h.1, passed_more more names p q xs cs h.2)
 passed_more more names p q [] (c ∷ cs) h = absurd h
 passed_more more names p q (x ∷ xs) [] h = absurd h
 
@@ -157,7 +158,7 @@ module _ (make : Named → Made) (named : (n : Named) → made_name (make n) ≡
           depth_is = refl;
           inside = inl refl;
           one = n;
-          name_is = same_name-is n.name name h;
+          name_is = same_name_is n.name name h;
           made = record {
             number = 0;
             found =
@@ -166,7 +167,7 @@ module _ (make : Named → Made) (named : (n : Named) → made_name (make n) ≡
                 ∙ ap (λ (m : ℕ). Some (record { number = m; made = make n })) (let same : i ≡ i + 0 = omega arith in same);
             index =
                 λ j.
-                ap (λ (b : Bool). if b then Some j else index_from (j + 1) (cells_for block cells.made ns ++ cs) n.spot) (same_self n.spot)
+                ap (λ (b : Bool). if b then Some j else index_from (j + 1) (cells_for block cells.made ns ++ cs) n.spot) (same_spot_itself n.spot)
                 ∙ ap (λ (m : ℕ). Some m) (let same : j ≡ j + 0 = omega arith in same);
           };
         }
@@ -204,7 +205,7 @@ module _ (make : Named → Made) (named : (n : Named) → made_name (make n) ≡
 pub stands_there : (ns : List Named) (s : Spot) → IsIn s (spots_of_names ns) → stands_among ns s ≡ true
 stands_there [] s i = absurd i
 stands_there (n ∷ ns) s (inl e) =
-    ap (λ (t : Spot). stands_among (n ∷ ns) t) e ∙ ap (λ (b : Bool). if b then true else stands_among ns n.spot) (same_self n.spot)
+    ap (λ (t : Spot). stands_among (n ∷ ns) t) e ∙ ap (λ (b : Bool). if b then true else stands_among ns n.spot) (same_spot_itself n.spot)
 stands_there (n ∷ ns) s (inr i) = ap (λ (b : Bool). if same_spot n.spot s then true else b) (stands_there ns s i) ∙ either (same_spot n.spot s)
   where
     either : (b : Bool) → (if b then true else true) ≡ true

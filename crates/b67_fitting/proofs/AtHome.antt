@@ -11,8 +11,9 @@ use Rattle.algol_tree.specs.Sites as parts
 use Rattle.algol_tree.specs.Sites.{Site, here, sites, wants_value, name_part, actual_part, actual_part_by, first_formal, other_formals, inside_expr, inside_list, inside_actuals, sites_in_pairs, here_stmt, inside_stmt, sites_in_stmts, sites_in_decls, has_decls}
 use Rattle.algol_tree.specs.Sorts.{Declared}
 use Rattle.algol_tree.specs.Surroundings.{Surroundings, formals_at, knowing, knowing_all, inside_begin, inside_procedure}
-use Rattle.b67_fitting.proofs.Lists.{each_front, each_back, each_both}
-use Rattle.b67_fitting.proofs.Numbering.{IsNumbered, block_is}
+use Rattle.algol_tree.proofs.Trees.{block_is}
+use Rattle.b67_list.proofs.Lists.{each_back, each_both, each_front}
+use Rattle.b67_fitting.proofs.Numbering.{IsNumbered}
 use Rattle.b67_fitting.proofs.OneBlock.{the_block}
 use Rattle.b67_fitting.proofs.Placed.{same_number}
 

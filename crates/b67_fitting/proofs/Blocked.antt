@@ -13,13 +13,14 @@ use Rattle.algol_tree.specs.Cells as cells
 use Rattle.algol_tree.specs.Cells.{Cell, cells_for, cells_at}
 use Rattle.algol_tree.specs.Scopes.{names_in}
 use Rattle.algol_tree.specs.Sites.{Site}
+use Rattle.algol_tree.proofs.Spots.{same_spot_itself}
+use Rattle.algol_tree.proofs.Trees.{block_is}
+use Rattle.b67_list.proofs.Lists.{each_back, each_front}
 use Rattle.b67_fitting.proofs.Among.{in_among}
 use Rattle.b67_fitting.proofs.Apart.{IsIn, each_in, in_map, in_front, in_back, in_either, IsApart, Apart, apart_sym, apart_front, apart_back, apart_after, apart_across}
 use Rattle.b67_fitting.proofs.Frames.{IsOwn, only, only_own, only_other, front_own, control_cell, result_cell, named_of, front_cells}
 use Rattle.b67_fitting.proofs.Listed.{IsBlock, Listed, over, passed, turned, site, given, left, declared, both, block, procedure, AllThere}
-use Rattle.b67_fitting.proofs.Lists.{each_front, each_back}
 use Rattle.b67_fitting.proofs.Looked.{all_blocks}
-use Rattle.b67_fitting.proofs.Numbering.{block_is, same_self}
 
 abbrev pub block_spots : List Block → List Spot
 block_spots bs = map (λ (b : Block). b.spot) bs
@@ -32,7 +33,7 @@ one_on c bs i = ap (slice_get (c ∷ bs)) (add-one i)
 got : (bs : List Block) (b : Block) → Apart (block_spots bs) → IsIn b bs → slice_get bs (number_at bs b.spot) ≡ Some b
 got [] b p i = absurd i
 got (c ∷ bs) b p (inl e) =
-    ap (λ (z : Block). slice_get (c ∷ bs) (number_at (c ∷ bs) z.spot)) e ∙ ap (λ (t : Bool). slice_get (c ∷ bs) (if t then 0 else number_at bs c.spot + 1)) (same_self c.spot) ∙ ap Some (sym e)
+    ap (λ (z : Block). slice_get (c ∷ bs) (number_at (c ∷ bs) z.spot)) e ∙ ap (λ (t : Bool). slice_get (c ∷ bs) (if t then 0 else number_at bs c.spot + 1)) (same_spot_itself c.spot) ∙ ap Some (sym e)
 got (c ∷ bs) b p (inr i) =
     ap (λ (t : Bool). slice_get (c ∷ bs) (if t then 0 else number_at bs b.spot + 1)) (each_in (IsApart c.spot) b.spot (block_spots bs) p.0 (in_map (λ (z : Block). z.spot) b bs i))
     ∙ one_on c bs (number_at bs b.spot) ∙ got bs b p.1 i
@@ -46,7 +47,7 @@ number_within (c ∷ bs) b i = by (same_spot c.spot b.spot) refl (number_within 
   where
     by : (t : Bool) → same_spot c.spot b.spot ≡ t → (IsIn b bs → number_at bs b.spot < length bs) → IsIn b (c ∷ bs) → (if t then 0 else number_at bs b.spot + 1) < length (c ∷ bs)
     by true e later j = omega arith
-    by false e later (inl same) = absurd (let clash : true ≡ false = sym (same_self b.spot) ∙ ap (λ (z : Block). same_spot z.spot b.spot) same ∙ e in cc)
+    by false e later (inl same) = absurd (let clash : true ≡ false = sym (same_spot_itself b.spot) ∙ ap (λ (z : Block). same_spot z.spot b.spot) same ∙ e in cc)
     by false e later (inr j) = omega (arith, later j)
 
 -- a place that is no block's has no number
@@ -70,7 +71,7 @@ module _ (blocks : List Block) (apart : Apart (block_spots blocks)) (Q : Site �
       by false e = refl
       by true e =
           let same : c ≡ b = sym (numbered blocks c apart j) ∙ ap (block_numbered blocks) (eqb-true (number_of c) (number_of b) e) ∙ numbered blocks b apart i in
-          let clash : true ≡ false = sym (same_self b.spot) ∙ ap (λ (z : Block). same_spot b.spot z.spot) (sym same) ∙ h in
+          let clash : true ≡ false = sym (same_spot_itself b.spot) ∙ ap (λ (z : Block). same_spot b.spot z.spot) (sym same) ∙ h in
           clash
 
   -- ---- cells

@@ -13,14 +13,16 @@ use Rattle.algol_tree.specs.Scopes.{Scopes, Use, used, use_by, use_of}
 use Rattle.algol_tree.specs.Sites.{Site, sites, sites_in_pairs, here_stmt, inside_stmt, sites_in_stmts, sites_in_decls, has_decls}
 use Rattle.algol_tree.specs.Sorts.{Sort, Declared, is_variable, is_formal, declared_parameters, is_named_in, sort_in, class_in}
 use Rattle.algol_tree.specs.Surroundings.{Surroundings, declared_as, knowing, knowing_all, inside_procedure}
+use Rattle.algol_tree.proofs.Trees.{found_known, use_is}
 use Rattle.algol_paths.specs.Blocks.{IsSeenAround}
 use Rattle.algol_paths.specs.Texts.{InPairs}
+use Rattle.b67_list.proofs.Lists.{append_none_left, each_back, each_both, each_front}
 use Rattle.b67_fitting.specs.Typing.{HeadingSpecified}
 use Rattle.b67_fitting.proofs.Headings.{DeclsSpecified, StmtSpecified}
-use Rattle.b67_fitting.proofs.Lists.{each_front, each_back, each_both, each_of, nil_front}
+use Rattle.b67_fitting.proofs.Lists.{each_of}
 use Rattle.b67_fitting.proofs.Numbering.{IsThere}
 use Rattle.b67_fitting.proofs.Specified.{IsSpecified, as_value, as_name, as_array, as_event, AreSpecified, specified}
-use Rattle.b67_fitting.proofs.Surrounded.{IsKnown, IsAround, found_known, use_is, IsGood, AreGood, the_use, KnownAs, all_seen, expr_known}
+use Rattle.b67_fitting.proofs.Surrounded.{IsKnown, IsAround, IsGood, AreGood, the_use, KnownAs, all_seen, expr_known}
 
 -- ---- what is known at the begin of a block
 
@@ -76,7 +78,7 @@ module _ (sc : Scopes) (j : ℕ) (outer : List Spot) (a : Surroundings) (r : IsA
   seen_around n k t =
       let its = if_so (not (is_some (declared_as a n))) n.spot in (
         (all_seen sc j outer a r (n ∷ []) k t).0,
-        outer_by n (declared_as a n) refl (nil_front its [] k) (each_front (IsThere sc.uses) (used a n) [] t),
+        outer_by n (declared_as a n) refl (append_none_left its [] k) (each_front (IsThere sc.uses) (used a n) [] t),
       )
 
   in_pairs : (ps : List PPair) → AreGood sc (sites_in_pairs ps a) → InPairs (IsSeenAround sc j) ps

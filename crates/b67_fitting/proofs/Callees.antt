@@ -13,10 +13,11 @@ use Rattle.algol_tree.specs.Plain.{PStmt, PDecls}
 use Rattle.algol_tree.specs.Sites.{Site, sites_in_pairs, here_stmt, inside_stmt, sites_in_decls}
 use Rattle.algol_tree.specs.Sorts.{same_name, Declared, parameters_of}
 use Rattle.algol_tree.specs.Surroundings.{Surroundings, body_of, heading_or, announced, knowing, inside_procedure}
+use Rattle.algol_tree.proofs.Trees.{block_is}
+use Rattle.b67_list.proofs.Lists.{append_none_left, each_back}
 use Rattle.b67_fitting.specs.Typing.{HeadingSpecified}
 use Rattle.b67_fitting.proofs.Headings.{DeclSpecified, DeclsSpecified}
-use Rattle.b67_fitting.proofs.Lists.{each_back, nil_front}
-use Rattle.b67_fitting.proofs.Numbering.{IsNumbered, block_is}
+use Rattle.b67_fitting.proofs.Numbering.{IsNumbered}
 
 -- the names of a part of the tree are known where it stands
 abbrev pub IsNamed : Site → Type 0
@@ -87,7 +88,7 @@ module _ (blocks : List Block) where
       are_callees j outer ds after first e b.1 n (each_back IsNamed (sites_in_pairs pairs (record after { known = first })) (sites_in_decls blocks ds after first) k.1)
   are_callees j outer (tree.decls (tree.forward h) ds) a first e b n k =
       let later = are_callees j outer ds (knowing blocks (tree.forward h) ds a) first e b.1 n k.1 in
-      (announced_callee j h ds (body_of h.name.name ds) later refl (nil_front (if_so (not (is_some (body_of h.name.name ds))) h.name.spot) (unknown_in_heading h) k.0), later)
+      (announced_callee j h ds (body_of h.name.name ds) later refl (append_none_left (if_so (not (is_some (body_of h.name.name ds))) h.name.spot) (unknown_in_heading h) k.0), later)
   are_callees j outer (tree.decls (tree.procedure h t) ds) a first e b n k =
       let after : Surroundings = knowing blocks (tree.procedure h t) ds a in
       let c : Surroundings = inside_procedure blocks h after in

@@ -1,7 +1,6 @@
 -- The cells of a block among those of the parts of a tree: its variables, its procedures, its actuals, its arrays, events and tasks and its
 -- result are no more than these.
-use Rattle.std.proofs.Common.{arith, ◌≡◌, ℕ, ◌+◌, ◌==◌, ◌≤◌, Bool, true, false, List, [], ◌∷◌, ◌++◌, filter, length, is_some, Option, Some, None, refl, ap, ◌∙◌, if◌then◌else◌, suc}
-use Rattle.std.proofs.lemmas.Bool.Decides.{nat_tests}
+use Rattle.std.proofs.Common.{arith, ◌≡◌, ℕ, ◌+◌, ◌==◌, ◌≤◌, Bool, false, List, [], ◌∷◌, ◌++◌, filter, length, is_some, Option, Some, None, refl, ap, ◌∙◌, if◌then◌else◌, suc}
 use Rattle.std.proofs.lemmas.List.{length-append, length-map}
 use Rattle.std.proofs.lemmas.List.Concat.{flat_map-append}
 use Rattle.std.proofs.lemmas.List.Elements.{filter-append}
@@ -22,6 +21,7 @@ use Rattle.algol_tree.specs.Sorts.{Declared}
 use Rattle.algol_tree.specs.Surroundings.{Surroundings, knowing, knowing_all, inside_procedure}
 use Rattle.algol_paths.specs.Arrays.{DeclaredArray, Made, an_array, arrays_in, made_in, an_event}
 use Rattle.b67_templates.specs.Cells.{Simple, value, parameter_cells, simple_cells, of_kind, result_cells_of, variables, procedures, made_of, events_in, actuals_in_pairs, actuals_in_decls, actuals_in_stmts}
+use Rattle.b67_list.proofs.Numbers.{number_itself}
 use Rattle.b67_fitting.proofs.Headings.{DeclsSpecified, StmtSpecified}
 use Rattle.b67_templates.specs.Nested.{AreParameters}
 use Rattle.b67_fitting.proofs.ParametersTold.{told_many}
@@ -34,21 +34,18 @@ cells_both blocks xs ys k =
     let back = flat_map (cells_at blocks) ys in
     ap (λ z. length (filter own z)) (flat_map-append (cells_at blocks) xs ys) ∙ ap length (filter-append own front back) ∙ length-append (filter own front) (filter own back)
 
-is_own : (k : ℕ) → (k == k) ≡ true
-is_own k = grind (arith, nat_tests)
-
 -- what a block has a cell for is a cell of the block
 own_cells : (k : ℕ) (content : Content) (ns : List Named) → length (filter (λ (c : Cell). c.block == k) (cells_for k content ns)) ≡ length ns
 own_cells k content [] = refl
 own_cells k content (n ∷ ns) =
     let rest = filter (λ (c : Cell). c.block == k) (cells_for k content ns) in
-    ap (λ (b : Bool). length (if b then record { block = k; spot = n.spot; content = content } ∷ rest else rest)) (is_own k) ∙ ap suc (own_cells k content ns)
+    ap (λ (b : Bool). length (if b then record { block = k; spot = n.spot; content = content } ∷ rest else rest)) (number_itself k) ∙ ap suc (own_cells k content ns)
 
 one_there : (k : ℕ) (spot : Spot) (content : Content) (cs : List Cell) →
     length (filter (λ (c : Cell). c.block == k) (record { block = k; spot = spot; content = content } ∷ cs)) ≡ suc (length (filter (λ (c : Cell). c.block == k) cs))
 one_there k spot content cs =
     let rest = filter (λ (c : Cell). c.block == k) cs in
-    ap (λ (b : Bool). length (if b then record { block = k; spot = spot; content = content } ∷ rest else rest)) (is_own k)
+    ap (λ (b : Bool). length (if b then record { block = k; spot = spot; content = content } ∷ rest else rest)) (number_itself k)
 
 -- ---- variables, procedures and arrays
 

@@ -1,5 +1,5 @@
 -- Parts of a tree at which no rule is broken, where the names that are known are specified.
-use Rattle.std.proofs.Common.{arith, ◌≡◌, ◌⊎◌, inl, inr, ℕ, ◌==◌, ◌&&◌, not, Bool, true, false, List, [], ◌∷◌, ◌++◌, length, is_some, Option, Some, None, refl, ap, ◌∙◌, subst, if◌then◌else◌}
+use Rattle.std.proofs.Common.{◌≡◌, ◌⊎◌, inl, inr, ℕ, ◌==◌, ◌&&◌, not, Bool, true, false, List, [], ◌∷◌, ◌++◌, length, is_some, Option, Some, None, refl, ap, ◌∙◌, subst, if◌then◌else◌}
 use Rattle.std.proofs.lemmas.Bool.{eqb-true}
 use Rattle.std.specs.List.{AllByRecursion}
 use Rattle.algol_tree.specs.declared.token.Spot.{Spot}
@@ -20,8 +20,8 @@ use Rattle.algol_tree.specs.Sites.{Site}
 use Rattle.algol_tree.specs.Sorts.{Declared, look_up}
 use Rattle.algol_tree.specs.Surroundings.{Surroundings, class_of, class_of_declared, declared_as}
 use Rattle.algol_tree.specs.Types.{read_type, type_of}
+use Rattle.b67_list.proofs.Lists.{append_none_left, empty_if_none}
 use Rattle.b67_fitting.specs.Typing.{HeadingSpecified, IsEventful}
-use Rattle.b67_fitting.proofs.Lists.{nil_front}
 
 pub record IsClean (blocks : List Block) (x : Site) : Type 0 where
   pub known : unknown_names x ≡ []
@@ -59,7 +59,7 @@ plain_name a k n h = class_from a k n (declared_as a n) refl h
 
 -- the name of a use only, or of the first of a part
 pub plain_first : (a : Surroundings) → KnowsPlain a → (n : Named) (more : List Spot) → if_so (not (is_some (declared_as a n))) n.spot ++ more ≡ [] → IsPlain (class_of a n)
-plain_first a k n more h = plain_name a k n (nil_front (if_so (not (is_some (declared_as a n))) n.spot) more h)
+plain_first a k n more h = plain_name a k n (append_none_left (if_so (not (is_some (declared_as a n))) n.spot) more h)
 
 abbrev pub misnamed : (Class → Bool) → Class → Spot → List Spot
 misnamed test c spot = if_so (not (test c) && not (is_unspecified c)) spot
@@ -131,15 +131,11 @@ as_many c h count spot e g = by (length h.params == count) refl (subst (λ (d : 
     by true f k = eqb-true (length h.params) count f
     by false f k = absurd (let clash : spot ∷ [] ≡ [] = k in cc)
 
-pub none_long : {X : Type 0} (xs : List X) → length xs ≡ 0 → xs ≡ []
-none_long [] h = refl
-none_long (x ∷ xs) h = absurd (omega (arith, h))
-
 -- .. also a typed one whose name is read
 pub none_taken : (c : Class) (h : Heading) (k : Kind) (spot : Spot) → c ≡ class.procedure h → h.kind ≡ Some k → if_so (is_function c && takes_others c 0) spot ≡ [] → h.params ≡ []
 none_taken c h k spot e f g =
     let typed : if_so (is_some h.kind && takes_others (class.procedure h) 0) spot ≡ [] = subst (λ (d : Class). if_so (is_function d && takes_others d 0) spot ≡ []) e g in
-    none_long h.params (as_many (class.procedure h) h 0 spot refl (subst (λ (o : Option Kind). if_so (is_some o && takes_others (class.procedure h) 0) spot ≡ []) f typed))
+    empty_if_none h.params (as_many (class.procedure h) h 0 spot refl (subst (λ (o : Option Kind). if_so (is_some o && takes_others (class.procedure h) 0) spot ≡ []) f typed))
 
 -- the name of a typed procedure
 pub record IsTyped (c : Class) : Type 0 where

@@ -25,6 +25,7 @@ use Rattle.b67_ops.specs.declared.Couple.{Couple}
 use Rattle.b67_templates.specs.Cells.{Simple, Wanted, value, by_name, parameters_in, parameter_cells, simple_cells, variables, result_cells_of, procedures, found_from, IsVariable, IsFormalName, of_variable, of_formal, IsProcedure}
 use Rattle.b67_templates.specs.Fitting as fitting
 use Rattle.b67_templates.specs.Fitting.{Told, meant_is_event, a_variable, a_name, a_procedure, meant_is_name, wanted_by_name, couple_on_left, ReadFits, PlaceFits, resolved, NameActualFits, refers_to, passes_on}
+use Rattle.b67_list.proofs.Lists.{each_both, each_map}
 use Rattle.b67_fitting.specs.Fitted.{spelled, meant_as, target_of}
 use Rattle.b67_fitting.specs.Typing.{HeadingSpecified, is_around}
 use Rattle.b67_fitting.proofs.Aligned.{IsAt}
@@ -33,7 +34,7 @@ use Rattle.b67_fitting.proofs.Blocked.{block_spots, numbered, number_none, HasCe
 use Rattle.b67_fitting.proofs.Frames.{plain, named_of, front_cells, variable_cells, control_cells, made_cells, decl_cells, result_cell, cells_of_block, laid_out}
 use Rattle.b67_fitting.proofs.Framing.{variable_cell, in_filter, simple_is, framed, framed_parameter, controlled, without, result_index, result_found}
 use Rattle.b67_fitting.proofs.Given.{cell_of}
-use Rattle.b67_fitting.proofs.Lists.{each_both, each_map, filter_every}
+use Rattle.b67_fitting.proofs.Lists.{filter_every}
 use Rattle.b67_fitting.proofs.Placed.{CalleeFits}
 use Rattle.b67_fitting.proofs.ResultsApart.{result_other}
 use Rattle.b67_fitting.proofs.Homed.{IsHome, IsValue}
@@ -43,9 +44,6 @@ use Rattle.b67_fitting.proofs.Made.{places_in}
 use Rattle.b67_fitting.proofs.Specified.{IsSpecified, as_value, as_name, as_array, as_event, AreSpecified, specified}
 use Rattle.b67_fitting.proofs.Typed.{as_formal}
 use Rattle.b67_fitting.proofs.Wanting.{wanted_of, wanted_value, wanted_name, wanted_array, wanted_event}
-
-pub use_is : (sc : Scopes) (n : Named) (u : Use) → declared_in sc.uses n.spot ≡ Some u → use_of sc n ≡ u
-use_is sc n u h = rw h refl
 
 abbrev pub the_use : Surroundings → Named → Declared → Use
 the_use a n d = record { spot = n.spot; block = d.block; up = a.depth - d.depth; sort = d.sort }

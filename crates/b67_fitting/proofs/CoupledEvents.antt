@@ -13,7 +13,7 @@ use Rattle.algol_tree.specs.Sites.{Site}
 use Rattle.algol_tree.specs.Sorts as sort
 use Rattle.algol_tree.specs.Sorts.{Sort, Declared, same_name}
 use Rattle.algol_tree.specs.Surroundings.{Surroundings}
-use Rattle.algol_meaning.proofs.Naming.{same_name-itself}
+use Rattle.algol_tree.proofs.Names.{same_name_itself}
 use Rattle.algol_paths.specs.Arrays.{an_event}
 use Rattle.algol_paths.specs.Segments.{segment_of}
 use Rattle.b67_templates.specs.Cells.{Simple, event, simple_cells, found_from}
@@ -40,7 +40,7 @@ label_among k (n ∷ ns) one name i e = by (same_name n.name name) refl i (λ j.
         (number : ℕ) × ((if b then Some k else label_from (k + 1) ns name) ≡ Some number)
     by true g j later = (k, refl)
     by false g (inl same) later =
-        let clash : true ≡ false = sym (same_name-itself name) ∙ ap (λ (z : List ℕ). same_name z name) (sym e ∙ ap (λ (z : Named). z.name) same) ∙ g in
+        let clash : true ≡ false = sym (same_name_itself name) ∙ ap (λ (z : List ℕ). same_name z name) (sym e ∙ ap (λ (z : Named). z.name) same) ∙ g in
         absurd cc
     by false g (inr j) later = later j
 

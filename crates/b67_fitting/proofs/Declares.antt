@@ -27,6 +27,7 @@ use Rattle.algol_tree.specs.Sorts.{Sort, Declared, formals_of}
 use Rattle.algol_tree.specs.Surroundings.{Surroundings, class_of, class_of_declared, formals_of_class, formals_at, declared_as, knowing, knowing_all, inside_procedure}
 use Rattle.algol_tree.specs.Types.{taken_by}
 use Rattle.algol_paths.specs.Arrays.{Lows, or_lows, lows_among, lows_declared}
+use Rattle.b67_list.proofs.Lists.{append_none_right}
 use Rattle.b67_fitting.specs.Typing.{IsArrayActual, IsEventActual, TypedPairs, TypedDecls, HasElements, TypedExpr, TypedActual, TypedActuals, TypedLine}
 use Rattle.b67_fitting.proofs.ActualCells.{actual_cell, cell_given, cells_in, cells_among as cells_in_list, cells_given, cells_in_pairs}
 use Rattle.b67_fitting.proofs.ActualPlaces.{others_of, begins, no_part, both_places, places_inside}
@@ -36,7 +37,6 @@ use Rattle.b67_fitting.proofs.Apart.{IsIn, in_each, in_map, in_front, in_back, A
 use Rattle.b67_fitting.proofs.Arrayed.{none_lows, from_first, AreLastLows, last_lows}
 use Rattle.b67_fitting.proofs.Frames.{each_own_for, control_cell, named_of, result_cell}
 use Rattle.b67_fitting.proofs.Given.{AreLastNamed, last_named, found_named, named_is}
-use Rattle.b67_fitting.proofs.Lists.{nil_back}
 use Rattle.b67_fitting.proofs.Parameters.{AreLast, last_step, found_last, around_is}
 use Rattle.b67_fitting.proofs.Known.{Stands}
 use Rattle.b67_fitting.proofs.Listed.{AllThere, own_places, reads_in, lefts_in, IsFair, IsGiving, IsDeclaring, IsProcedure, Listed, over, passed, site, given, both}
@@ -393,7 +393,7 @@ module _ (blocks : List Block) where
       subst (IsCalleeOf blocks b) (sym same)
       (record {
         built = t.1.0;
-        once = nil_back _ _ t.0.once;
+        once = append_none_right _ _ t.0.once;
         body = s;
         body_there = f (procedure_block g s (b.spot ∷ b.outer)) (inl refl);
         cells_are = around_is blocks b g.name.spot e ∙ found_last b.decls g ds s l;

@@ -8,8 +8,9 @@ use Rattle.algol_tree.specs.declared.tree.Named.{Named}
 use Rattle.algol_tree.specs.Classes.{Class}
 use Rattle.algol_tree.specs.Names.{if_so, name_is_one_of, repeated}
 use Rattle.algol_tree.specs.Sorts.{Sort, same_name, Declared, look_up, declare}
-use Rattle.algol_meaning.proofs.Naming.{same_name-is}
-use Rattle.b67_fitting.proofs.Lists.{nil_front, nil_back, not_so}
+use Rattle.algol_tree.proofs.Names.{same_name_is}
+use Rattle.algol_tree.proofs.Spots.{not_so}
+use Rattle.b67_list.proofs.Lists.{append_none_left, append_none_right}
 
 -- ---- names
 
@@ -45,15 +46,6 @@ one_of_back (x ∷ xs) ys name h = by (same_name x name) (one_of_back xs ys name
 -- the names of this block among these
 abbrev pub names_of : ℕ → List Declared → List (List ℕ)
 names_of block known = map (λ (d : Declared). d.name) (filter (λ (d : Declared). d.block == block) known)
-
--- one of these is one of more
-pub one_more : (more names : List (List ℕ)) (name : List ℕ) → name_is_one_of names name ≡ true → name_is_one_of (more ++ names) name ≡ true
-one_more [] names name h = h
-one_more (m ∷ more) names name h = by (same_name m name) (one_more more names name h)
-  where
-    by : (b : Bool) → name_is_one_of (more ++ names) name ≡ true → (if b then true else name_is_one_of (more ++ names) name) ≡ true
-    by true later = refl
-    by false later = later
 
 pub one_front : (names more : List (List ℕ)) (name : List ℕ) → name_is_one_of names name ≡ true → name_is_one_of (names ++ more) name ≡ true
 one_front [] more name h = absurd (let clash : false ≡ true = h in cc)
@@ -117,11 +109,11 @@ module _ (block depth : ℕ) (s : Sort) (c : Class) where
   -- a name that is declared there was not seen before
   pub fresh : (ns : List Named) (seen : List (List ℕ)) (name : List ℕ) (d : Declared) → repeated seen ns ≡ [] → look_up (declare block depth s c ns) name ≡ Some d → name_is_one_of seen name ≡ false
   fresh [] seen name d h g = absurd (let clash : None ≡ Some d = g in cc)
-  fresh (n ∷ ns) seen name d h g = by (same_name n.name name) refl (fresh ns (n.name ∷ seen) name d (nil_back (if_so (name_is_one_of seen n.name) n.spot) (repeated (n.name ∷ seen) ns) h)) g
+  fresh (n ∷ ns) seen name d h g = by (same_name n.name name) refl (fresh ns (n.name ∷ seen) name d (append_none_right (if_so (name_is_one_of seen n.name) n.spot) (repeated (n.name ∷ seen) ns) h)) g
     where
       by : (b : Bool) → same_name n.name name ≡ b → (look_up (declare block depth s c ns) name ≡ Some d → (if same_name n.name name then true else name_is_one_of seen name) ≡ false) →
           (if b then Some (entry n) else look_up (declare block depth s c ns) name) ≡ Some d → name_is_one_of seen name ≡ false
       by true e later f =
-          subst (λ (z : List ℕ). name_is_one_of seen z ≡ false) (same_name-is n.name name e)
-          (not_so (name_is_one_of seen n.name) n.spot (nil_front (if_so (name_is_one_of seen n.name) n.spot) (repeated (n.name ∷ seen) ns) h))
+          subst (λ (z : List ℕ). name_is_one_of seen z ≡ false) (same_name_is n.name name e)
+          (not_so (name_is_one_of seen n.name) n.spot (append_none_left (if_so (name_is_one_of seen n.name) n.spot) (repeated (n.name ∷ seen) ns) h))
       by false e later f = subst (λ (b : Bool). (if b then true else name_is_one_of seen name) ≡ false) e (later f)

@@ -1,6 +1,5 @@
 -- An accepted program fits.
-use Rattle.std.proofs.Common.{arith, ◌≡◌, inl, inr, ℕ, ◌+◌, ◌<◌, ◌≤◌, ◌==◌, Bool, true, false, List, [], ◌∷◌, ◌++◌, length, slice_get, Some, None, zero, suc, refl, sym, ap, ◌∙◌, subst, if◌then◌else◌}
-use Rattle.std.proofs.lemmas.Bool.Decides.{nat_tests}
+use Rattle.std.proofs.Common.{arith, ◌≡◌, inl, inr, ℕ, ◌+◌, ◌<◌, ◌≤◌, Bool, true, false, List, [], ◌∷◌, ◌++◌, length, Some, None, refl, sym, ap, ◌∙◌, subst, if◌then◌else◌}
 use Rattle.std.specs.List.{flat_map, AllByRecursion}
 use Rattle.algol_tree.specs.declared.token.Spot.{Spot}
 use Rattle.algol_tree.specs.declared.tree.Named.{Named}
@@ -17,11 +16,15 @@ use Rattle.algol_tree.specs.Scopes.{Scopes, scopes_of, scopes_by}
 use Rattle.algol_tree.specs.Sites.{Site, sites_by, sites_in_decls, sites_in_stmts, has_decls}
 use Rattle.algol_tree.specs.Sorts.{same_name}
 use Rattle.algol_tree.specs.Surroundings.{Surroundings, outermost, knowing_all}
-use Rattle.algol_meaning.proofs.Naming.{same_name-is}
+use Rattle.algol_tree.proofs.Names.{same_name_is}
+use Rattle.algol_tree.proofs.Spots.{same_spot_itself}
+use Rattle.algol_tree.proofs.Trees.{got_numbered}
 use Rattle.algol_paths.specs.Segments.{segment_of}
 use Rattle.b67_ops.specs.declared.TheConstants.{MOST_LEVEL}
 use Rattle.b67_templates.specs.Labels.{labels_in, labels_before, label_from, label_in}
 use Rattle.b67_templates.specs.Fitting.{Told, DeclsFit, StmtsFit}
+use Rattle.b67_list.proofs.Lists.{each_back, each_both, each_front}
+use Rattle.b67_list.proofs.Numbers.{number_less}
 use Rattle.b67_fitting.specs.Fitted.{declared_at, AcceptedProgramsFit}
 use Rattle.b67_fitting.specs.Labelled.{LabelsStand}
 use Rattle.b67_fitting.specs.Texts.{HasPlainTexts}
@@ -30,7 +33,7 @@ use Rattle.b67_fitting.specs.Wholes.{HasWholeNumbers}
 use Rattle.b67_fitting.proofs.ActualCells.{cells_in_decls, text_plain, text_held}
 use Rattle.b67_fitting.proofs.ActualsCelled.{have_acts, all_celled}
 use Rattle.b67_fitting.proofs.ActualsFound.{SiteTells}
-use Rattle.b67_fitting.proofs.Lists.{each_front, each_back, each_both, each_of}
+use Rattle.b67_fitting.proofs.Lists.{each_of}
 use Rattle.b67_fitting.proofs.Among.{apart_among}
 use Rattle.b67_fitting.proofs.Apart.{IsIn, each_in, in_each, in_front, in_back, IsApart, Apart, ascending_apart, apart_front, apart_back}
 use Rattle.b67_fitting.proofs.Blocked.{block_spots, number_within, numbered, AreOf, HasCells, cells_are}
@@ -46,7 +49,7 @@ use Rattle.b67_fitting.proofs.Given.{AreWhole}
 use Rattle.b67_fitting.proofs.Headings.{DeclsSpecified, StmtsSpecified}
 use Rattle.b67_fitting.proofs.HeadingsTyped.{IsTyped, in_decls as specified_decls, in_stmts as specified_stmts}
 use Rattle.b67_fitting.proofs.Nesting.{whole, blocks_apart as numbers_apart, there_numbered}
-use Rattle.b67_fitting.proofs.Numbering.{IsNumbered, all_numbered, number_is, same_self}
+use Rattle.b67_fitting.proofs.Numbering.{IsNumbered, all_numbered, number_is}
 use Rattle.b67_fitting.proofs.Homed.{IsHome, all_homes, all_far}
 use Rattle.b67_fitting.proofs.Known.{Stands, around_outermost, knows_plain}
 use Rattle.b67_fitting.proofs.LabelsFound.{IsWithin, all_within, all_read, label_stands}
@@ -59,9 +62,6 @@ use Rattle.b67_fitting.proofs.Placed.{same_number, Keep, BlockFits, all_fit}
 use Rattle.b67_fitting.proofs.Reached.{all_tell, all_placed}
 use Rattle.b67_fitting.proofs.Started.{HasCallees, IsStarted, start}
 use Rattle.b67_fitting.proofs.Stated.{all_stated, all_declared}
-
-less_is_other : (m n : ℕ) → m < n → (m == n) ≡ false
-less_is_other m n h = grind (arith, nat_tests)
 
 module _ (spot : Spot) (ds : PDecls) (ss : PStmts) (blocks : List Block) where
   abbrev program : PProgram
@@ -101,7 +101,7 @@ module _ (spot : Spot) (ds : PDecls) (ss : PStmts) (blocks : List Block) where
 
     first_number : number_at blocks spot ≡ 0
     first_number =
-        ap (λ (z : List Block). number_at z spot) (sym same) ∙ ap (λ (t : Bool). if t then 0 else number_at (decl_blocks ++ stmt_blocks) spot + 1) (same_self spot)
+        ap (λ (z : List Block). number_at z spot) (sym same) ∙ ap (λ (t : Bool). if t then 0 else number_at (decl_blocks ++ stmt_blocks) spot + 1) (same_spot_itself spot)
 
     in_decls : AllThere blocks decl_blocks
     in_decls b i = there b (inr (in_front b decl_blocks stmt_blocks i))
@@ -159,7 +159,7 @@ module _ (spot : Spot) (ds : PDecls) (ss : PStmts) (blocks : List Block) where
 
         -- the cells of all blocks, whatever holds of each part
         all_cells : (Q : Site → Type 0) → AllByRecursion Q all → AreOf blocks all_apart Q (length blocks) [] in_text (flat_map (cells_at blocks) all)
-        all_cells Q h = cells_are blocks all_apart Q listed h apart there (λ b i. less_is_other (number_at blocks b.spot) (length blocks) (number_within blocks b (there b i)))
+        all_cells Q h = cells_are blocks all_apart Q listed h apart there (λ b i. number_less (number_at blocks b.spot) (length blocks) (number_within blocks b (there b i)))
 
         is_program : IsProgram blocks all
         is_program =
@@ -208,11 +208,6 @@ module _ (spot : Spot) (ds : PDecls) (ss : PStmts) (blocks : List Block) where
         label_there good clean stand b i n j =
             label_stands blocks all is_program.known_apart good clean stand (all_read blocks all listed) (λ c k. numbered blocks c all_apart k)
             (in_each (IsWithin blocks all) blocks (λ c k. each_in (IsWithin blocks all) c in_text (all_within blocks all listed (λ x m. m)) (back c k))) b i n j
-
-pub got_numbered : (bs : List Block) (j : ℕ) → j < length bs → slice_get bs j ≡ Some (block_numbered bs j)
-got_numbered [] j h = absurd (omega (arith, h))
-got_numbered (b ∷ bs) zero h = refl
-got_numbered (b ∷ bs) (suc j) h = got_numbered bs j (omega (arith, h))
 
 -- what holds of an accepted program: its places are apart, no rule is broken at a part of it, its blocks are whole, and it is typed
 module _ (spot : Spot) (ds : PDecls) (ss : PStmts) where
@@ -277,7 +272,7 @@ numbered_label k (n ∷ ns) name number h = by (same_name n.name name) refl (num
   where
     by : (b : Bool) → same_name n.name name ≡ b → (label_from (k + 1) ns name ≡ Some number → (m : Named) × IsIn m ns × (m.name ≡ name)) → (if b then Some k else label_from (k + 1) ns name) ≡ Some number →
         (m : Named) × IsIn m (n ∷ ns) × (m.name ≡ name)
-    by true e later g = (n, inl refl, same_name-is n.name name e)
+    by true e later g = (n, inl refl, same_name_is n.name name e)
     by false e later g = let r = later g in (r.0, inr r.1, r.2)
 
 pub labels_stand : LabelsStand

@@ -14,9 +14,9 @@ use Rattle.algol_tree.specs.Phrases.{phrase_of, is_no_phrase, columns, items_of,
 use Rattle.algol_tree.specs.Plain as tree
 use Rattle.algol_tree.specs.Plain.{PExprs}
 use Rattle.algol_tree.specs.Spelling.{is_number, value_of}
+use Rattle.algol_tree.proofs.Spots.{not_so}
 use Rattle.b67_segment.specs.declared.code.Phrase.{Phrase}
 use Rattle.b67_segment.specs.declared.code.Phrase.TheVariants as parts
-use Rattle.b67_fitting.proofs.Lists.{not_so}
 use Rattle.b67_templates.specs.Code.{AreParts, IsCodePart, text, word, word_part, numbers_in, exprs_count}
 use Rattle.b67_templates.specs.Fitting.{PhraseFits, PhrasesFit}
 use Rattle.b67_fitting.specs.Texts.{PhrasePlain, PhrasesPlain}

@@ -12,8 +12,9 @@ use Rattle.algol_tree.specs.Cells.{Content, Cell, cells_for, content_number, hol
 use Rattle.algol_tree.specs.Plain as tree
 use Rattle.algol_tree.specs.Plain.{PDecls}
 use Rattle.b67_templates.specs.Cells.{Simple, parameters_in, parameters_declared, parameters_around}
+use Rattle.b67_list.proofs.Lists.{each_both}
 use Rattle.b67_fitting.proofs.Wanting.{wanted_of}
-use Rattle.b67_fitting.proofs.Lists.{each_both, each_of, filter_none, filter_every}
+use Rattle.b67_fitting.proofs.Lists.{each_of, filter_none, filter_every}
 
 -- ---- the cells of declarations: those of variables, those of procedures, those of arrays, events and tasks, and all in the order of the text
 

@@ -15,14 +15,15 @@ use Rattle.algol_tree.specs.Plain as tree
 use Rattle.algol_tree.specs.Plain.{PStmt, PDecls}
 use Rattle.algol_tree.specs.Scopes.{Use}
 use Rattle.algol_tree.specs.Sorts.{same_name}
+use Rattle.algol_tree.proofs.Spots.{same_spot_itself}
 use Rattle.b67_templates.specs.Cells.{Simple, Wanted, value, Found, found_from, of_kind, variables, result_cells_of, simple_cells, procedures}
+use Rattle.b67_list.proofs.Lists.{each_back, each_both, each_front}
 use Rattle.b67_fitting.proofs.Aligned.{AreOthers, Aligned, aligned_over, index_on, aligned_on, aligned_result, index_past, IsControl, control}
 use Rattle.b67_fitting.proofs.Apart.{IsIn, each_in, in_front, in_back, in_either, IsApart, Apart, apart_sym, apart_back, apart_from}
 use Rattle.b67_fitting.proofs.Frames.{named_of, named_long, variable_cells, control_cells, made_cells, decl_cells, result_cell}
 use Rattle.b67_fitting.proofs.Homed.{IsHome}
 use Rattle.b67_fitting.proofs.Known.{given_cells, given_places, variable_spots, headings}
-use Rattle.b67_fitting.proofs.Lists.{each_front, each_back, each_both, each_of}
-use Rattle.b67_fitting.proofs.Numbering.{same_self}
+use Rattle.b67_fitting.proofs.Lists.{each_of}
 
 -- ---- places
 
@@ -296,7 +297,7 @@ module _ (blocks : List Block) (b : Block) (home : IsHome blocks b) (acts : List
       let place = 2 + length (given_places blocks b) in
       ap (λ (o : Option Kind). index_from 2 (given_places blocks b ++ (result_cell o block b.spot ++ more)) b.spot) e
       ∙ index_past (given_places blocks b) (result_cell (Some kind) block b.spot ++ more) 2 b.spot given_far
-      ∙ ap (λ (t : Bool). if t then Some place else index_from (place + 1) more b.spot) (same_self b.spot)
+      ∙ ap (λ (t : Bool). if t then Some place else index_from (place + 1) more b.spot) (same_spot_itself b.spot)
       ∙ ap (λ (n : ℕ). Some (2 + n)) given_long
 
   pub result_found : (kind : Kind) (name : List ℕ) → b.result ≡ Some kind → same_name b.name name ≡ true → AllByRecursion (λ (x : Simple). same_name x.name name ≡ false) (given_cells blocks b) →

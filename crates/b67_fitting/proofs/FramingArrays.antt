@@ -15,6 +15,7 @@ use Rattle.algol_tree.specs.Plain.{PDecls}
 use Rattle.algol_tree.specs.Sorts.{same_name}
 use Rattle.algol_paths.specs.Arrays.{Made}
 use Rattle.b67_templates.specs.Cells.{Simple, found_from, result_cells_of, procedures, variables, made_of}
+use Rattle.b67_list.proofs.Lists.{each_both}
 use Rattle.b67_fitting.proofs.Aligned.{index_past, index_on}
 use Rattle.b67_fitting.proofs.Apart.{IsIn, in_front, in_back, in_either, IsApart, Apart, apart_back, apart_from}
 use Rattle.b67_fitting.proofs.Arrayed.{made_spots, IsMade, from_first}
@@ -22,7 +23,6 @@ use Rattle.b67_fitting.proofs.Frames.{named_of, variable_cells, control_cells, m
 use Rattle.b67_fitting.proofs.Framing.{cells_apart, variables_far, controls_far, parameters_apart, block, frame, simples, decls_apart, own_apart, result_apart, all_long}
 use Rattle.b67_fitting.proofs.Homed.{IsHome}
 use Rattle.b67_fitting.proofs.Known.{given_cells, given_places}
-use Rattle.b67_fitting.proofs.Lists.{each_both}
 
 -- ---- places
 

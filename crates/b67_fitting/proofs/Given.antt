@@ -13,6 +13,7 @@ use Rattle.algol_tree.specs.Plain as tree
 use Rattle.algol_tree.specs.Plain.{PStmt, PDecl, PDecls}
 use Rattle.algol_tree.specs.Sorts as sort
 use Rattle.algol_tree.specs.Sorts.{same_name, Declared, look_up, is_named_in, sort_in, class_in}
+use Rattle.algol_tree.proofs.Spots.{same_spot_itself}
 use Rattle.algol_paths.specs.Arrays.{Shape, Lows, shape_in, lows_in_shape, lows_among}
 use Rattle.b67_templates.specs.Cells.{Simple, Wanted, value, by_name, array, event, found_from, parameters_around}
 use Rattle.b67_fitting.specs.Wholes.{HaveDimensions}
@@ -22,7 +23,6 @@ use Rattle.b67_fitting.proofs.Apart.{IsIn, each_in, in_back, IsApart, Apart, apa
 use Rattle.b67_fitting.proofs.Frames.{named_declared, named_around, named_of}
 use Rattle.b67_fitting.proofs.Wanting.{wanted_of, wanted_value, wanted_name, wanted_array, wanted_event}
 use Rattle.b67_fitting.proofs.Specified.{IsSpecified, as_value, as_name, as_array, as_event, AreSpecified, no_shape, dimensions_in}
-use Rattle.b67_fitting.proofs.Numbering.{same_self}
 
 -- ---- what is known of them
 
@@ -90,7 +90,7 @@ module _ (block depth : ℕ) (h : Heading) where
             block_is = refl;
             depth_is = refl;
             inside = inl refl;
-            lows = ap (λ (b : Bool). if b then lows_in_shape (shape_in h.specs n.name) else lows_among h.specs ns n.spot) (same_self n.spot) ∙ one_lows n v.0;
+            lows = ap (λ (b : Bool). if b then lows_in_shape (shape_in h.specs n.name) else lows_among h.specs ns n.spot) (same_spot_itself n.spot) ∙ one_lows n v.0;
             aligned =
                 λ i j q.
                 record {
@@ -98,7 +98,7 @@ module _ (block depth : ℕ) (h : Heading) where
                   cell = cell_of h n;
                   found = ap (λ (b : Bool). if b then Some (record { number = i; cell = cell_of h n }) else found_from (i + 1) (map (cell_of h) ns) name) e;
                   wanted_is = refl;
-                  index = ap (λ (b : Bool). if b then Some j else index_from (j + 1) (cells_for block cells.parameter ns) n.spot) (same_self n.spot) ∙ ap Some q;
+                  index = ap (λ (b : Bool). if b then Some j else index_from (j + 1) (cells_for block cells.parameter ns) n.spot) (same_spot_itself n.spot) ∙ ap Some q;
                 };
           })
       by false e later f =
@@ -127,7 +127,7 @@ last_named all (tree.procedure g t) ds p l =
 last_named all d ds p l = λ s i. l s (in_back s (spots_of_decl d) (spots_of_decls ds) i)
 
 pub found_named : (all : PDecls) (g : Heading) (ds : PDecls) (t : PStmt) → AreLastNamed all (tree.decls (tree.procedure g t) ds) → named_declared all g.name.spot ≡ g.params
-found_named all g ds t l = l g.name.spot (inl refl) ∙ ap (λ (b : Bool). if b then g.params else named_declared ds g.name.spot) (same_self g.name.spot)
+found_named all g ds t l = l g.name.spot (inl refl) ∙ ap (λ (b : Bool). if b then g.params else named_declared ds g.name.spot) (same_spot_itself g.name.spot)
 
 pub named_is : (blocks : List Block) (c : Block) (s : Spot) → block_numbered blocks (number_at blocks c.spot) ≡ c → named_around blocks (c.spot ∷ c.outer) s ≡ named_declared c.decls s
 named_is blocks c s e = ap (λ (z : Block). named_declared z.decls s) e

@@ -12,11 +12,11 @@ use Rattle.algol_tree.specs.Plain.{PStmt, PStmts, PDecls}
 use Rattle.algol_tree.specs.Scopes.{Scopes}
 use Rattle.algol_tree.specs.Sorts.{Parameter, parameters_of}
 use Rattle.b67_templates.specs.Cells.{Simple, found_from, parameters_in, parameters_declared, parameter_cells}
+use Rattle.b67_list.proofs.Lists.{each_back, each_both, each_front}
 use Rattle.b67_fitting.specs.Typing.{HeadingSpecified}
 use Rattle.b67_fitting.proofs.Headings.{DeclsSpecified, StmtSpecified, StmtsSpecified}
 use Rattle.b67_templates.specs.Nested.{AreTold, AreParameters}
 use Rattle.b67_fitting.proofs.Apart.{Apart, in_each, apart_front, apart_back}
-use Rattle.b67_fitting.proofs.Lists.{each_front, each_back, each_both}
 use Rattle.b67_fitting.proofs.ResultsApart.{IsClear, none_found}
 use Rattle.b67_fitting.proofs.ParametersTold.{parameter_names, parameters_told}
 use Rattle.b67_fitting.proofs.Parameters.{IsOutside, outside, AreLast, last_step, found_last, around_is}

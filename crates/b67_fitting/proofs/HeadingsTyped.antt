@@ -15,9 +15,10 @@ use Rattle.algol_tree.specs.Plain.{PStmt, PStmts, PDecl, PDecls}
 use Rattle.algol_tree.specs.Sites.{Site, declaration, sites, has_decls, here_stmt, inside_stmt, inside_decl, sites_in_stmts, sites_in_decls}
 use Rattle.algol_tree.specs.Sorts.{Declared, specified_by, class_by, class_in}
 use Rattle.algol_tree.specs.Surroundings.{Surroundings, knowing, knowing_all, inside, inside_procedure}
+use Rattle.algol_tree.proofs.Spots.{not_so}
+use Rattle.b67_list.proofs.Lists.{append_none_left, append_none_right, each_back, each_front}
 use Rattle.b67_fitting.specs.Typing.{HeadingSpecified}
 use Rattle.b67_fitting.proofs.Headings.{DeclSpecified, DeclsSpecified, StmtSpecified, StmtsSpecified}
-use Rattle.b67_fitting.proofs.Lists.{each_front, each_back, nil_front, nil_back, not_so}
 
 -- a simple one, an array or an event
 abbrev IsOneOf : Class → Type 0
@@ -40,7 +41,7 @@ of_specs (s ∷ ss) name h = by (specified_by s name) (of_specs ss name) h
 of_parameters : (h : Heading) (ns : List Named) → flat_map (λ (n : Named). if_so (is_unspecified (class_in h.specs n.name)) n.spot) ns ≡ [] →
     AllByRecursion (λ (n : Named). IsOneOf (class_in h.specs n.name)) ns
 of_parameters h [] e = tt
-of_parameters h (n ∷ ns) e = (of_specs h.specs n.name (not_so (is_unspecified (class_in h.specs n.name)) n.spot (nil_front _ _ e)), of_parameters h ns (nil_back _ _ e))
+of_parameters h (n ∷ ns) e = (of_specs h.specs n.name (not_so (is_unspecified (class_in h.specs n.name)) n.spot (append_none_left _ _ e)), of_parameters h ns (append_none_right _ _ e))
 
 heading_specified : (h : Heading) → flat_map (λ (n : Named). if_so (is_unspecified (class_in h.specs n.name)) n.spot) h.params ≡ [] → HeadingSpecified h
 heading_specified h e = All-from_recursion (λ (n : Named). IsOneOf (class_in h.specs n.name)) h.params (of_parameters h h.params e)
@@ -94,7 +95,7 @@ module _ (blocks : List Block) where
 
     in_decl : (d : PDecl) (ds : PDecls) (a : Surroundings) (first : List Declared) → IsTyped (record { part = declaration d ds; around = a }) →
         AreTyped (inside_decl blocks d (knowing blocks d ds a) first) → DeclSpecified d
-    in_decl (tree.forward h) ds a first t c = heading_specified h (nil_front _ _ (nil_front _ _ t))
+    in_decl (tree.forward h) ds a first t c = heading_specified h (append_none_left _ _ (append_none_left _ _ t))
     in_decl (tree.procedure h s) ds a first t c =
-        (heading_specified h (nil_front _ _ t), in_stmt s of_procedure false (inside_procedure blocks h (knowing blocks (tree.procedure h s) ds a)) c.1)
+        (heading_specified h (append_none_left _ _ t), in_stmt s of_procedure false (inside_procedure blocks h (knowing blocks (tree.procedure h s) ds a)) c.1)
     in_decl _ ds a first t c = tt

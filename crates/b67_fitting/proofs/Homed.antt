@@ -12,12 +12,13 @@ use Rattle.algol_tree.specs.Cells as cells
 use Rattle.algol_tree.specs.Cells.{Cell, cells_for, cells_at}
 use Rattle.algol_tree.specs.Scopes.{names_in}
 use Rattle.algol_tree.specs.Sites.{Site}
+use Rattle.b67_list.proofs.Lists.{each_back, each_both}
 use Rattle.b67_fitting.proofs.Among.{each_among}
 use Rattle.b67_fitting.proofs.Apart.{IsIn, each_in, in_front, in_back, in_either, IsApart, Apart, apart_sym, apart_front, apart_back, apart_after, in_after, apart_from, apart_across}
 use Rattle.b67_fitting.proofs.Blocked.{block_spots}
 use Rattle.b67_fitting.proofs.Frames.{control_cell, result_cell, named_of}
 use Rattle.b67_fitting.proofs.Listed.{Listed, over, passed, turned, site, given, left, declared, both, block, procedure}
-use Rattle.b67_fitting.proofs.Lists.{each_back, each_both, each_of}
+use Rattle.b67_fitting.proofs.Lists.{each_of}
 use Rattle.b67_fitting.proofs.Looked.{all_blocks}
 use Rattle.b67_fitting.proofs.Started.{HasCallees}
 

@@ -19,10 +19,12 @@ use Rattle.algol_tree.specs.Sites.{Part, Site, inside_decl, sites_in_decls, site
 use Rattle.algol_tree.specs.Sorts as sort
 use Rattle.algol_tree.specs.Sorts.{Sort, Declared, same_name, look_up, declare}
 use Rattle.algol_tree.specs.Surroundings.{Surroundings, class_of, declared_as, knowing}
+use Rattle.algol_tree.proofs.Names.{same_name_is, same_name_itself}
+use Rattle.algol_tree.proofs.Spots.{same_spot_is}
 use Rattle.algol_meaning.specs.Statements.{is_labelled}
-use Rattle.algol_meaning.proofs.Naming.{same_name-itself, same_name-is}
 use Rattle.b67_templates.specs.Labels.{labels_in, label_before, label_in}
-use Rattle.b67_fitting.proofs.Apart.{IsIn, each_in, in_front, in_back, in_either, in_flat, in_map, Apart, same_place}
+use Rattle.b67_list.proofs.Lists.{append_none_left, each_both, none_mapped}
+use Rattle.b67_fitting.proofs.Apart.{IsIn, each_in, in_front, in_back, in_either, in_flat, in_map, Apart}
 use Rattle.b67_fitting.proofs.AtHome.{Heads, StandsIn, AtHome}
 use Rattle.b67_fitting.proofs.Clean.{IsClean, AreClean, plain_first, label_of}
 use Rattle.b67_fitting.proofs.Coupled.{holds}
@@ -30,7 +32,7 @@ use Rattle.b67_fitting.proofs.Framing.{in_filter}
 use Rattle.b67_fitting.proofs.Known.{Around, knows_plain, IsLabelled}
 use Rattle.b67_fitting.proofs.Listed as listing
 use Rattle.b67_fitting.proofs.Listed.{reads_in, IsBlock, Listed, over, passed, turned, site, given, declared, both, block, procedure}
-use Rattle.b67_fitting.proofs.Lists.{each_both, nil_each, nil_front, nil_map}
+use Rattle.b67_fitting.proofs.Lists.{nil_each}
 use Rattle.b67_fitting.proofs.Looked.{known_found}
 use Rattle.b67_fitting.proofs.Meant.{declared_label, labelled_of}
 
@@ -60,9 +62,9 @@ look_new k depth s c (m ∷ ns) known n i = by (same_name m.name n.name) refl i 
     by : (b : Bool) → same_name m.name n.name ≡ b → IsIn n (m ∷ ns) →
         (IsIn n ns → (d : Declared) × (look_up (declare k depth s c ns ++ known) n.name ≡ Some d) × (d.block ≡ k) × (d.name ≡ n.name)) →
         (d : Declared) × ((if b then Some first else look_up (declare k depth s c ns ++ known) n.name) ≡ Some d) × (d.block ≡ k) × (d.name ≡ n.name)
-    by true e i later = (first, refl, refl, same_name-is m.name n.name e)
+    by true e i later = (first, refl, refl, same_name_is m.name n.name e)
     by false e (inl g) later =
-        let clash : true ≡ false = sym (same_name-itself n.name) ∙ ap (λ (z : Named). same_name z.name n.name) g ∙ e in
+        let clash : true ≡ false = sym (same_name_itself n.name) ∙ ap (λ (z : Named). same_name z.name n.name) g ∙ e in
         absurd cc
     by false e (inr j) later = later j
 
@@ -70,7 +72,7 @@ look_new k depth s c (m ∷ ns) known n i = by (same_name m.name n.name) refl i 
 
 heads_labelled : (s : PStmt) (m : Named) (name : List ℕ) → m.name ≡ name → Heads m s → is_labelled s name ≡ true
 heads_labelled (tree.label n s) m name e (inl same) =
-    ap (λ (b : Bool). if b then true else is_labelled s name) (ap (λ (z : List ℕ). same_name z name) (sym (ap (λ (z : Named). z.name) same) ∙ e) ∙ same_name-itself name)
+    ap (λ (b : Bool). if b then true else is_labelled s name) (ap (λ (z : List ℕ). same_name z name) (sym (ap (λ (z : Named). z.name) same) ∙ e) ∙ same_name_itself name)
 heads_labelled (tree.label n s) m name e (inr h) = ap (λ (b : Bool). if same_name n.name name then true else b) (heads_labelled s m name e h) ∙ either (same_name n.name name)
   where
     either : (b : Bool) → (if b then true else true) ≡ true
@@ -132,8 +134,8 @@ module _ (all : List Site) where
           record {
             one = t;
             there = in_filter (λ (u : Standing). same_spot u.declared spot) t standings there;
-            declared_is = same_place t.declared spot (holds (λ (u : Standing). same_spot u.declared spot) t standings there);
-            at_home = home_of t ts (nil_map (λ (u : Standing). u.spot) (filter (λ (u : Standing). not u.at_home) (t ∷ ts)) (nil_front _ (map (λ (u : Standing). u.spot) ts) g));
+            declared_is = same_spot_is t.declared spot (holds (λ (u : Standing). same_spot u.declared spot) t standings there);
+            at_home = home_of t ts (none_mapped (λ (u : Standing). u.spot) (filter (λ (u : Standing). not u.at_home) (t ∷ ts)) (append_none_left _ (map (λ (u : Standing). u.spot) ts) g));
           }
 
   -- the part at which a label stands

@@ -11,10 +11,11 @@ use Rattle.algol_tree.specs.Plain as tree
 use Rattle.algol_tree.specs.Plain.{PDecl, PDecls}
 use Rattle.algol_tree.specs.Sorts.{Sort, same_name, Declared, look_up, declare}
 use Rattle.algol_tree.specs.Surroundings.{Surroundings, made_known, knowing}
+use Rattle.algol_tree.proofs.Trees.{among_behind}
 use Rattle.b67_templates.specs.Cells.{Simple, value, of_kind, variables}
+use Rattle.b67_list.proofs.Lists.{each_both, each_map}
 use Rattle.b67_fitting.specs.Typing.{TypedDecls}
-use Rattle.b67_fitting.proofs.Declaring.{names_of, names_both, one_more, entry}
-use Rattle.b67_fitting.proofs.Lists.{each_both, each_map}
+use Rattle.b67_fitting.proofs.Declaring.{names_of, names_both, entry}
 use Rattle.b67_fitting.proofs.ResultsApart.{none_named}
 
 -- of what is declared in a block the block has the name
@@ -38,7 +39,7 @@ module _ (blocks : List Block) where
   still_named : (a : Surroundings) (d : PDecl) (ds : PDecls) (name : List ℕ) → name_is_one_of (names_of a.block a.known) name ≡ true → name_is_one_of (names_of a.block (knowing blocks d ds a).known) name ≡ true
   still_named a d ds name h =
       let new = made_known blocks d ds a in
-      subst (λ (names : List (List ℕ)). name_is_one_of names name ≡ true) (sym (names_both a.block new a.known)) (one_more (names_of a.block new) (names_of a.block a.known) name h)
+      subst (λ (names : List (List ℕ)). name_is_one_of names name ≡ true) (sym (names_both a.block new a.known)) (among_behind (names_of a.block new) (names_of a.block a.known) name h)
 
   abbrev IsOther : List ℕ → Simple → Type 0
   IsOther name x = same_name x.name name ≡ false
@@ -52,6 +53,6 @@ module _ (blocks : List Block) where
   later a first (tree.decls (tree.simple kind ns) ds) t name h =
       let results = result_names_of (block_numbered blocks a.block) in
       let here = names_of a.block a.known in
-      each_both (IsOther name) (of_kind kind ns) (variables ds) (kind_other kind ns name (none_named (results ++ here) ns name (one_more results here name h) t.0.once))
+      each_both (IsOther name) (of_kind kind ns) (variables ds) (kind_other kind ns name (none_named (results ++ here) ns name (among_behind results here name h) t.0.once))
       (later (knowing blocks (tree.simple kind ns) ds a) first ds t.2 name (still_named a (tree.simple kind ns) ds name h))
   later a first (tree.decls d ds) t name h = later (knowing blocks d ds a) first ds t.2 name (still_named a d ds name h)

@@ -1,5 +1,5 @@
 -- The numbers among the tokens of a text are whole, the strings plain, and the names are no empty ones.
-use Rattle.std.proofs.Common.{◌≡◌, ℕ, ◌<◌, nat_le, nat_lt, Bool, true, false, cond, List, [], ◌∷◌, length, get_or, Option, Some, None, position, pos, unsigned_abs, refl, sym, subst, not, if◌then◌else◌, arith}
+use Rattle.std.proofs.Common.{◌≡◌, ℕ, ◌<◌, nat_le, nat_lt, Bool, true, false, List, [], ◌∷◌, length, get_or, Option, Some, None, position, pos, unsigned_abs, refl, sym, subst, not, if◌then◌else◌, arith}
 use Rattle.std.proofs.lemmas.Bool.{leb-true, ltb-false, not-true, not-false}
 use Rattle.std.proofs.lemmas.List.Sums.{AllPass-from_list_all, prefix_len_passes}
 use Rattle.std.specs.Prelude.{IsTrue}
@@ -17,7 +17,8 @@ use Rattle.algol_tree.specs.Spelling as spelling
 use Rattle.algol_tree.specs.Spelling.{Spells, value_of}
 use Rattle.b67_templates.specs.Fitting.{IsPlainText}
 use Rattle.b67_templates.specs.Fragments.{IsWholeNumber}
-use Rattle.b67_fitting.proofs.Lists.{each_both}
+use Rattle.b67_list.proofs.Lists.{each_both}
+use Rattle.b67_list.proofs.Numbers.{cond_none}
 
 abbrev pub KindRight : TokenKind → Type 0
 KindRight (kinds.Number value) = IsWholeNumber value
@@ -74,16 +75,11 @@ remark_front_right (kinds.Text bytes) size = tt
 remark_front_right (kinds.Symbol s) size = tt
 remark_front_right kinds.End size = tt
 
--- no place was found
-none_found : (b : Bool) (n : ℕ) → cond b (Some n) None ≡ None → b ≡ false
-none_found true n h = absurd (let clash : Some n ≡ None = h in cc)
-none_found false n h = refl
-
 -- a byte that is not printable is not found
 printable_at : (bytes : List ℕ) (k d : ℕ) → position (λ b. not (is_printable b)) bytes ≡ None → k < length bytes → IsTrue (is_printable (get_or bytes k d))
 printable_at bytes k d h lo =
     let n = position_or_len (λ b. not (is_printable b)) bytes in
-    let end = ltb-false n (length bytes) (none_found (nat_lt n (length bytes)) n h) in
+    let end = ltb-false n (length bytes) (cond_none (nat_lt n (length bytes)) n h) in
     let b = is_printable (get_or bytes k d) in
     not-false b (not-true (not b) (prefix_len_passes (λ b. not (not (is_printable b))) bytes k d (omega (arith, end, lo))))
 

@@ -1,5 +1,5 @@
 -- The blocks of an accepted program keep to the limits of levels and of cells.
-use Rattle.std.proofs.Common.{arith, ◌≡◌, ℕ, ◌+◌, ◌≤◌, List, [], ◌∷◌, map, length, slice_get, Option, Some, None, zero, suc, refl, ap}
+use Rattle.std.proofs.Common.{arith, ◌≡◌, ℕ, ◌+◌, ◌≤◌, List, [], ◌∷◌, map, length, slice_get, refl, ap}
 use Rattle.std.proofs.lemmas.Bool.{ltb-false}
 use Rattle.std.proofs.lemmas.List.{length-append, length-map}
 use Rattle.algol_tree.specs.declared.TheConstants.{MOST_BLOCK_CELLS, MOST_LEVEL}
@@ -8,23 +8,16 @@ use Rattle.algol_tree.specs.declared.tree.Named.{Named}
 use Rattle.algol_tree.specs.Accepted.{scope_faults_in}
 use Rattle.algol_tree.specs.Blocks.{Block, number_at}
 use Rattle.algol_tree.specs.Cells.{Cell, actual, holding, cells_of, level_of}
-use Rattle.algol_tree.specs.Names.{if_so, is_too_deep, found_place, place_beyond, deep_blocks, cells_beyond}
+use Rattle.algol_tree.specs.Names.{if_so, is_too_deep, place_beyond, deep_blocks, cells_beyond}
 use Rattle.algol_tree.specs.Plain as tree
 use Rattle.algol_tree.specs.Plain.{PDecls, PProgram}
 use Rattle.algol_tree.specs.Sites.{Site}
+use Rattle.algol_tree.proofs.Spots.{not_found, not_so}
 use Rattle.b67_templates.specs.Cells.{variables, procedures, made_of}
+use Rattle.b67_list.proofs.Lists.{append_none_left, append_none_right, no_longer, none_mapped}
 use Rattle.b67_fitting.proofs.Frames.{plain, named_of, front_cells, decl_cells, cells_of_block, as_many as all_many}
 use Rattle.b67_fitting.proofs.Apart.{IsIn, each_in}
-use Rattle.b67_fitting.proofs.Lists.{nil_front, nil_back, nil_map, nil_each, not_so}
-
-pub no_longer : {X : Type 0} (xs : List X) (k : ℕ) → slice_get xs k ≡ None → length xs ≤ k
-no_longer [] k h = omega arith
-no_longer (x ∷ xs) zero h = absurd (let clash : Some x ≡ None = h in cc)
-no_longer (x ∷ xs) (suc k) h = omega (arith, no_longer xs k h)
-
-pub not_found : (o : Option Spot) → found_place o ≡ [] → o ≡ None
-not_found None h = refl
-not_found (Some s) h = absurd (let clash : s ∷ [] ≡ [] = h in cc)
+use Rattle.b67_fitting.proofs.Lists.{nil_each}
 
 pub none_beyond : (most : ℕ) (spots : List Spot) → place_beyond most spots ≡ [] → length spots ≤ most
 none_beyond most spots h = no_longer spots most (not_found (slice_get spots most) h)
@@ -62,7 +55,7 @@ as_many block (tree.decls d ds) = as_many block ds
 module _ (p : PProgram) (blocks : List Block) (sites : List Site) (accepted : scope_faults_in p blocks sites ≡ []) where
   few_places : (b : Block) → IsIn b blocks → length (map (λ (c : Cell). c.spot) (cells_of blocks sites (number_at blocks b.spot))) ≤ MOST_BLOCK_CELLS
   few_places b i =
-      let beyond : cells_beyond blocks sites ≡ [] = nil_map _ _ (nil_back _ _ (nil_front _ _ (nil_front _ _ accepted))) in
+      let beyond : cells_beyond blocks sites ≡ [] = none_mapped _ _ (append_none_right _ _ (append_none_left _ _ (append_none_left _ _ accepted))) in
       none_beyond MOST_BLOCK_CELLS (map (λ (c : Cell). c.spot) (cells_of blocks sites (number_at blocks b.spot)))
       (each_in (λ (c : Block). place_beyond MOST_BLOCK_CELLS (map (λ (c : Cell). c.spot) (cells_of blocks sites (number_at blocks c.spot))) ≡ []) b blocks (nil_each _ blocks beyond) i)
 
@@ -81,6 +74,6 @@ module _ (p : PProgram) (blocks : List Block) (sites : List Site) (accepted : sc
 
   pub not_deep : (b : Block) → IsIn b blocks → level_of b ≤ MOST_LEVEL
   not_deep b i =
-      let deep : deep_blocks blocks ≡ [] = nil_front _ _ (nil_map _ _ (nil_back _ _ (nil_front _ _ (nil_front _ _ (nil_front _ _ accepted))))) in
+      let deep : deep_blocks blocks ≡ [] = append_none_left _ _ (none_mapped _ _ (append_none_right _ _ (append_none_left _ _ (append_none_left _ _ (append_none_left _ _ accepted))))) in
       ltb-false MOST_LEVEL (level_of b)
       (not_so (is_too_deep (level_of b)) b.spot (each_in (λ (c : Block). if_so (is_too_deep (level_of c)) c.spot ≡ []) b blocks (nil_each _ blocks deep) i))

@@ -15,6 +15,7 @@ use Rattle.algol_tree.specs.Sites as parts
 use Rattle.algol_tree.specs.Sites.{Site, has_decls, here_stmt, inside_stmt, sites_in_stmts, sites_in_decls}
 use Rattle.algol_tree.specs.Sorts.{Declared, formals_of}
 use Rattle.algol_tree.specs.Surroundings.{Surroundings, knowing, knowing_all, inside_procedure}
+use Rattle.b67_list.proofs.Lists.{each_front}
 use Rattle.b67_fitting.specs.Typing.{TypedStmt, TypedStmts, TypedDecls}
 use Rattle.b67_fitting.proofs.ActualCells.{cells_in, cells_in_stmt, cells_in_stmts, cells_in_decls, cells_in_bounds, text_plain, text_held}
 use Rattle.b67_fitting.proofs.Apart.{IsIn, in_front, in_back, IsApart, Apart, apart_front, apart_back, apart_across}
@@ -28,7 +29,6 @@ use Rattle.b67_fitting.proofs.Passing.{leading, front_among, given_passed}
 use Rattle.b67_fitting.proofs.Known.{given_cells, given_places, Stands, stands_inner, stands_procedure}
 use Rattle.b67_fitting.proofs.Listed.{AllThere, IsProcedure, IsBlock, Listed, over, passed, turned, site, left, declared, both, block, procedure}
 use Rattle.b67_templates.specs.Cells.{Simple, parameters_in}
-use Rattle.b67_fitting.proofs.Lists.{each_front}
 use Rattle.b67_fitting.proofs.Started.{HasCallees, Passed, none_passed, IsStarted, start, step}
 use Rattle.b67_fitting.proofs.UsesOnce.{task_places}
 

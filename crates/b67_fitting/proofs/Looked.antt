@@ -15,18 +15,18 @@ use Rattle.algol_tree.specs.Sites.{Site, here_stmt}
 use Rattle.algol_tree.specs.Sorts as sort
 use Rattle.algol_tree.specs.Sorts.{Sort, Declared}
 use Rattle.algol_tree.specs.Surroundings.{Surroundings, declared_as}
+use Rattle.algol_tree.proofs.Spots.{same_spot_itself}
 use Rattle.b67_fitting.proofs.Among.{Among, nothing, skip, keep, none_among, turn_after, join}
 use Rattle.b67_fitting.proofs.Apart.{IsIn, each_in, in_map, Apart}
 use Rattle.b67_fitting.proofs.Declares.{names_among}
 use Rattle.b67_fitting.proofs.Listed.{Listed, over, passed, turned, site, given, left, declared, both, block, procedure}
-use Rattle.b67_fitting.proofs.Numbering.{same_self}
 
 -- ---- what is found
 
 pub use_found : (us : List Use) (u : Use) → Apart (map (λ (v : Use). v.spot) us) → IsIn u us → declared_in us u.spot ≡ Some u
 use_found [] u p i = absurd i
 use_found (v ∷ us) u p (inl e) =
-    ap (λ (z : Use). declared_in (v ∷ us) z.spot) e ∙ ap (λ (b : Bool). if b then Some v else declared_in us v.spot) (same_self v.spot) ∙ ap Some (sym e)
+    ap (λ (z : Use). declared_in (v ∷ us) z.spot) e ∙ ap (λ (b : Bool). if b then Some v else declared_in us v.spot) (same_spot_itself v.spot) ∙ ap Some (sym e)
 use_found (v ∷ us) u p (inr i) =
     ap (λ (b : Bool). if b then Some v else declared_in us u.spot) (each_in (λ s. same_spot v.spot s ≡ false) u.spot (map (λ (v : Use). v.spot) us) p.0 (in_map (λ (v : Use). v.spot) u us i))
     ∙ use_found us u p.1 i
@@ -34,7 +34,7 @@ use_found (v ∷ us) u p (inr i) =
 pub known_found : (ks : List Known) (k : Known) → Apart (map (λ (m : Known). m.spot) ks) → IsIn k ks → known_there ks k.spot ≡ Some k.declared
 known_found [] k p i = absurd i
 known_found (m ∷ ks) k p (inl e) =
-    ap (λ (z : Known). known_there (m ∷ ks) z.spot) e ∙ ap (λ (b : Bool). if b then Some m.declared else known_there ks m.spot) (same_self m.spot)
+    ap (λ (z : Known). known_there (m ∷ ks) z.spot) e ∙ ap (λ (b : Bool). if b then Some m.declared else known_there ks m.spot) (same_spot_itself m.spot)
     ∙ ap (λ (z : Known). Some z.declared) (sym e)
 known_found (m ∷ ks) k p (inr i) =
     ap (λ (b : Bool). if b then Some m.declared else known_there ks k.spot)

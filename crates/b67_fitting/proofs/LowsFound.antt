@@ -15,9 +15,10 @@ use Rattle.algol_tree.specs.Plain as tree
 use Rattle.algol_tree.specs.Plain.{PDecls}
 use Rattle.algol_tree.specs.Sites.{Site}
 use Rattle.algol_tree.specs.Sorts.{Declared}
+use Rattle.algol_tree.proofs.Spots.{same_spot_is, same_spot_itself}
 use Rattle.algol_paths.specs.Arrays.{Lows, shape_in, stands_among, lows_in_shape, or_lows, lows_among, lows_declared, lows_at}
 use Rattle.b67_templates.specs.Cells.{value}
-use Rattle.b67_fitting.proofs.Apart.{IsIn, each_in, in_map, in_front, in_back, IsApart, same_place}
+use Rattle.b67_fitting.proofs.Apart.{IsIn, each_in, in_map, in_front, in_back, IsApart}
 use Rattle.b67_fitting.proofs.Arrayed.{array_spots, made_spots, array_made, own_lows}
 use Rattle.b67_fitting.proofs.Blocked.{block_spots, numbered}
 use Rattle.b67_fitting.proofs.Coupled.{given_cell, IsProgram, one_of, acts_of, act_there}
@@ -28,7 +29,6 @@ use Rattle.b67_fitting.proofs.Known.{variable_spots, headings, IsVariableOf, IsP
 use Rattle.b67_fitting.proofs.Listed.{has_own_place}
 use Rattle.b67_fitting.proofs.Made.{one_there, in_kept}
 use Rattle.b67_fitting.proofs.Started.{IsCalleeOf}
-use Rattle.b67_fitting.proofs.Numbering.{same_self}
 
 -- ---- where lower bounds are declared
 
@@ -37,7 +37,7 @@ stands_at [] s h = absurd (let clash : false ≡ true = h in cc)
 stands_at (n ∷ ns) s h = by (same_spot n.spot s) refl (stands_at ns s) h
   where
     by : (b : Bool) → same_spot n.spot s ≡ b → (stands_among ns s ≡ true → IsIn s (spots_of_names ns)) → (if b then true else stands_among ns s) ≡ true → IsIn s (n.spot ∷ spots_of_names ns)
-    by true e later g = inl (sym (same_place n.spot s e))
+    by true e later g = inl (sym (same_spot_is n.spot s e))
     by false e later g = inr (later g)
 
 lows_at_name : (specs : List Spec) (ns : List Named) (s : Spot) (found : Lows) → lows_among specs ns s ≡ Some found → IsIn s (spots_of_names ns)
@@ -46,7 +46,7 @@ lows_at_name specs (n ∷ ns) s found h = by (same_spot n.spot s) refl (lows_at_
   where
     by : (b : Bool) → same_spot n.spot s ≡ b → (lows_among specs ns s ≡ Some found → IsIn s (spots_of_names ns)) → (if b then lows_in_shape (shape_in specs n.name) else lows_among specs ns s) ≡ Some found →
         IsIn s (n.spot ∷ spots_of_names ns)
-    by true e later g = inl (sym (same_place n.spot s e))
+    by true e later g = inl (sym (same_spot_is n.spot s e))
     by false e later g = inr (later g)
 
 -- an array of these declarations stands there, or a parameter of a procedure
@@ -102,7 +102,7 @@ module _ (blocks : List Block) (all : List Site) (is : IsProgram blocks all) whe
       by : (t : Bool) → same_spot d.spot c.spot ≡ t → t ≡ false
       by false e = refl
       by true e =
-          let one : d ≡ c = one_there (λ (z : Cell). z.spot) placed d c is.places_apart j (act_placed b c i) (same_place d.spot c.spot e) in
+          let one : d ≡ c = one_there (λ (z : Cell). z.spot) placed d c is.places_apart j (act_placed b c i) (same_spot_is d.spot c.spot e) in
           absurd (other (ap (λ (z : Cell). z.content) one ∙ (act_there blocks all is b c i).1))
 
   -- the actuals of a block are apart from its variables, its parameters and what it makes
@@ -250,7 +250,7 @@ module _ (blocks : List Block) (all : List Site) (is : IsProgram blocks all) whe
           let c : Cell = record { block = r.number; spot = b.spot; content = r.content } in
           let there : IsIn c (flat_map (cells_at blocks) all) = in_filter (λ (z : Cell). has_own_place z.content) c (flat_map (cells_at blocks) all) r.there in
           let far : IsApart b.spot b.spot = each_in (IsApart b.spot) b.spot (block_spots blocks) (is.far c there (values r.content r.of_array)) (in_map (λ (z : Block). z.spot) b blocks t) in
-          let clash : true ≡ false = sym (same_self b.spot) ∙ far in
+          let clash : true ≡ false = sym (same_spot_itself b.spot) ∙ far in
           cc
 
   -- ---- names that are no array's

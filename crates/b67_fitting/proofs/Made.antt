@@ -14,11 +14,11 @@ use Rattle.algol_tree.specs.Cells as cells
 use Rattle.algol_tree.specs.Cells.{Cell, cells_for, cells_at}
 use Rattle.algol_tree.specs.Scopes.{names_in}
 use Rattle.algol_tree.specs.Sites.{Site}
+use Rattle.algol_tree.proofs.Spots.{same_spot_itself}
 use Rattle.b67_fitting.proofs.Among.{Among, nothing, skip, keep, none_among, turn_after, join}
 use Rattle.b67_fitting.proofs.Apart.{IsIn, each_in, in_map, IsApart, Apart}
 use Rattle.b67_fitting.proofs.Frames.{control_cell, result_cell, named_of, front_cells}
 use Rattle.b67_fitting.proofs.Listed.{has_own_place, own_places, Listed, over, passed, turned, site, given, left, declared, both, block, procedure}
-use Rattle.b67_fitting.proofs.Numbering.{same_self}
 
 -- of the cells of a heading those of the parameters have places of their own
 result_places : (o : Option Kind) (k : ℕ) (spot : Spot) (cs : List Cell) → own_places (result_cell o k spot ++ cs) ≡ own_places cs
@@ -75,11 +75,11 @@ one_there at [] x y p i j e = absurd i
 one_there at (z ∷ zs) x y p (inl i) (inl j) e = i ∙ sym j
 one_there at (z ∷ zs) x y p (inl i) (inr j) e =
     let far : IsApart (at z) (at y) = each_in (IsApart (at z)) (at y) (map at zs) p.0 (in_map at y zs j) in
-    let clash : true ≡ false = sym (same_self (at y)) ∙ ap (λ (s : Spot). same_spot s (at y)) (sym e ∙ ap at i) ∙ far in
+    let clash : true ≡ false = sym (same_spot_itself (at y)) ∙ ap (λ (s : Spot). same_spot s (at y)) (sym e ∙ ap at i) ∙ far in
     absurd cc
 one_there at (z ∷ zs) x y p (inr i) (inl j) e =
     let far : IsApart (at z) (at x) = each_in (IsApart (at z)) (at x) (map at zs) p.0 (in_map at x zs i) in
-    let clash : true ≡ false = sym (same_self (at x)) ∙ ap (λ (s : Spot). same_spot s (at x)) (e ∙ ap at j) ∙ far in
+    let clash : true ≡ false = sym (same_spot_itself (at x)) ∙ ap (λ (s : Spot). same_spot s (at x)) (e ∙ ap at j) ∙ far in
     absurd cc
 one_there at (z ∷ zs) x y p (inr i) (inr j) e = one_there at zs x y p.1 i j e
 

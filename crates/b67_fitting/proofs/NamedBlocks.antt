@@ -6,7 +6,7 @@ use Rattle.algol_tree.specs.Blocks.{Block, Begin, of_statement, of_procedure, de
 use Rattle.algol_tree.specs.Plain as tree
 use Rattle.algol_tree.specs.Plain.{PStmt, PStmts, PDecl, PDecls}
 use Rattle.b67_templates.specs.Names.{StmtNamed, StmtsNamed, DeclNamed, DeclsNamed}
-use Rattle.b67_fitting.proofs.Lists.{each_both}
+use Rattle.b67_list.proofs.Lists.{each_both}
 
 abbrev pub HasNamed : Block → Type 0
 HasNamed b = DeclsNamed b.decls

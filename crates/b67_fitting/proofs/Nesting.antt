@@ -1,6 +1,5 @@
 -- The blocks of an accepted program lie in one another.
 use Rattle.std.proofs.Common.{arith, ◌≡◌, inl, inr, ℕ, ◌<◌, ◌≤◌, nat_lt, Bool, true, false, List, [], ◌∷◌, ◌++◌, filter, length, map, take, Option, Some, None, refl, sym, ap, subst, zero, suc, slice_get, get_or, if◌then◌else◌}
-use Rattle.std.proofs.lemmas.Bool.Decides.{nat_tests}
 use Rattle.std.proofs.lemmas.List.{length-map}
 use Rattle.std.proofs.lemmas.Option.{slice_get-get_or}
 use Rattle.std.specs.List.{flat_map, AllByRecursion}
@@ -17,16 +16,19 @@ use Rattle.algol_tree.specs.Plain.{PDecls, PStmts, PProgram}
 use Rattle.algol_tree.specs.Scopes.{Scopes, scopes_of, scopes_by, uses_at}
 use Rattle.algol_tree.specs.Sites.{Site, sites_in_decls, sites_in_stmts, has_decls}
 use Rattle.algol_tree.specs.Surroundings.{Surroundings, outermost, knowing_all}
+use Rattle.algol_tree.proofs.Spots.{not_so}
+use Rattle.algol_tree.proofs.Trees.{block_is}
 use Rattle.algol_paths.specs.Segments.{is_procedure, procedures_before, tokens_or_none, segment_tokens}
 use Rattle.b67_templates.specs.Cells.{parameters_around, actuals_in_stmts}
+use Rattle.b67_list.proofs.Lists.{append_none_left, append_none_right, each_at, each_back, each_both, each_front, empty_if_none, none_mapped}
+use Rattle.b67_list.proofs.Numbers.{ltb_false}
 use Rattle.b67_fitting.proofs.Headings.{DeclsSpecified, StmtsSpecified}
 use Rattle.b67_fitting.proofs.HeadingsTyped.{IsTyped, in_decls as specified_decls, in_stmts as specified_stmts}
 use Rattle.b67_templates.specs.Names.{DeclsNamed, StmtsNamed}
 use Rattle.b67_templates.specs.Nested.{AreParameters, IsText, AreNested, ProgramsLieNested}
-use Rattle.b67_fitting.proofs.Lists.{each_front, each_back, each_both, nil_front, nil_back, nil_map, nil_each, not_so}
-use Rattle.b67_fitting.proofs.Numbering.{times_both, places, places_both, once, Apart, once_apart, use_place, IsThere, all_there, block_place, IsNumbered, all_numbered, block_is, each_at, number_is, number_first}
+use Rattle.b67_fitting.proofs.Lists.{nil_each}
+use Rattle.b67_fitting.proofs.Numbering.{times_both, places, places_both, once, Apart, once_apart, use_place, IsThere, all_there, block_place, IsNumbered, all_numbered, number_is, number_first}
 use Rattle.b67_fitting.proofs.Apart.{Apart as IsApartList, IsIn, each_in, ascending_apart, apart_front, apart_back}
-use Rattle.b67_fitting.proofs.Clean.{none_long}
 use Rattle.b67_fitting.proofs.Frames.{named_of, named_long}
 use Rattle.b67_fitting.proofs.Given.{AreWhole}
 use Rattle.b67_fitting.proofs.NamedBlocks.{HasNamed, HaveNamed, in_stmts as names_in_stmts, in_decls as names_in_decls}
@@ -45,9 +47,6 @@ use Rattle.b67_fitting.proofs.TextsNested.{callees, in_stmts, in_decls}
 use Rattle.b67_fitting.proofs.Limits.{none_beyond}
 
 -- ---- limits that are kept
-
-not_over : (most n : ℕ) → nat_lt most n ≡ false → n ≤ most
-not_over most n h = grind (arith, nat_tests)
 
 -- among the first of a list no more pass a test than in all of it
 fewer_before : {X : Type 0} (test : X → Bool) (xs : List X) (k : ℕ) → length (filter test (take k xs)) ≤ length (filter test xs)
@@ -78,7 +77,7 @@ short_segments p h k = by (slice_get (segments p (sites_of p)) k) refl
     by : (o : Option Segment) → slice_get (segments p (sites_of p)) k ≡ o → tokens_or_none o ≤ MOST_SEGMENT_TOKENS
     by None e = omega arith
     by (Some s) e =
-        not_over MOST_SEGMENT_TOKENS s.tokens (not_so (nat_lt MOST_SEGMENT_TOKENS s.tokens) s.spot (each_at IsShort (segments p (sites_of p)) k s (nil_each _ (segments p (sites_of p)) h) e))
+        ltb_false MOST_SEGMENT_TOKENS s.tokens (not_so (nat_lt MOST_SEGMENT_TOKENS s.tokens) s.spot (each_at IsShort (segments p (sites_of p)) k s (nil_each _ (segments p (sites_of p)) h) e))
 
 -- ---- all parts and blocks keep the rules
 
@@ -114,7 +113,7 @@ module _ (sc : Scopes) (all : List Site) where
         numbered = n;
         headed = v;
         named = m;
-        low = not_over MOST_LEVEL (level_of b) (not_so (is_too_deep (level_of b)) b.spot l);
+        low = ltb_false MOST_LEVEL (level_of b) (not_so (is_too_deep (level_of b)) b.spot l);
         few = omega (arith, none_beyond MOST_BLOCK_CELLS (map (λ (c : Cell). c.spot) its) h, length-map its (λ (c : Cell). c.spot));
       }
 
@@ -243,8 +242,8 @@ module _ (spot : Spot) (ds : PDecls) (ss : PStmts) (order : IsInOrder (tree.prog
     whole once =
         record {
           numbered = λ b i. block_is blocks (number_at blocks b.spot) b (each_in (IsNumbered blocks) b blocks (all_numbered blocks blocks_apart) i);
-          no_cells = λ b i e. none_long (parameters_around blocks b.outer b.spot) (omega (arith, parameters_many sc b (each_in (AreParameters sc) b blocks (headed once) i), ap length e));
-          no_names = λ b i e. none_long (named_of blocks b) (omega (arith, named_long blocks b, parameters_many sc b (each_in (AreParameters sc) b blocks (headed once) i), ap length e));
+          no_cells = λ b i e. empty_if_none (parameters_around blocks b.outer b.spot) (omega (arith, parameters_many sc b (each_in (AreParameters sc) b blocks (headed once) i), ap length e));
+          no_names = λ b i e. empty_if_none (named_of blocks b) (omega (arith, named_long blocks b, parameters_many sc b (each_in (AreParameters sc) b blocks (headed once) i), ap length e));
         }
 
     -- `its_own`: each block has the cells of its parameters
@@ -297,27 +296,27 @@ module _ (spot : Spot) (ds : PDecls) (ss : PStmts) (order : IsInOrder (tree.prog
 pub programs_lie_nested : ProgramsLieNested
 unfolding scopes_of blocks_of_program scope_faults check_faults
 programs_lie_nested (tree.program (tree.body spot ds ss)) accepted order named =
-    let up_to_procedures = nil_front _ _ accepted.scoped in
-    let up_to_cells = nil_front _ _ up_to_procedures in
-    let up_to_levels = nil_front _ _ up_to_cells in
-    let names = nil_front _ _ up_to_levels in
-    let unknown = nil_front _ _ names in
-    let twice = nil_back _ _ names in
-    let levels = nil_back _ _ up_to_levels in
-    let cells = nil_back _ _ up_to_cells in
-    let many = nil_back _ _ up_to_procedures in
-    let long = nil_back _ _ accepted.scoped in
-    let up_to_assigned = nil_front _ _ (nil_front _ _ (nil_front _ _ accepted.checked)) in
-    let wrong = nil_front _ _ (nil_front _ _ up_to_assigned) in
-    let assigned = nil_back _ _ up_to_assigned in
+    let up_to_procedures = append_none_left _ _ accepted.scoped in
+    let up_to_cells = append_none_left _ _ up_to_procedures in
+    let up_to_levels = append_none_left _ _ up_to_cells in
+    let names = append_none_left _ _ up_to_levels in
+    let unknown = append_none_left _ _ names in
+    let twice = append_none_right _ _ names in
+    let levels = append_none_right _ _ up_to_levels in
+    let cells = append_none_right _ _ up_to_cells in
+    let many = append_none_right _ _ up_to_procedures in
+    let long = append_none_right _ _ accepted.scoped in
+    let up_to_assigned = append_none_left _ _ (append_none_left _ _ (append_none_left _ _ accepted.checked)) in
+    let wrong = append_none_left _ _ (append_none_left _ _ up_to_assigned) in
+    let assigned = append_none_right _ _ up_to_assigned in
     let all_blocks = blocks_of_program (tree.program (tree.body spot ds ss)) in
     let declared_sites = sites_in_decls all_blocks ds outermost [] in
     let stated_sites = sites_in_stmts all_blocks ss (has_decls ds) (knowing_all all_blocks ds outermost) in
-    let right = nil_each (wrong_types all_blocks) (declared_sites ++ stated_sites) (nil_map _ _ wrong) in
+    let right = nil_each (wrong_types all_blocks) (declared_sites ++ stated_sites) (none_mapped _ _ wrong) in
     let decls_right = specified_decls all_blocks ds outermost [] (each_front (IsTyped all_blocks) declared_sites stated_sites right) in
     let stmts_right = specified_stmts all_blocks ss (has_decls ds) (knowing_all all_blocks ds outermost) (each_back (IsTyped all_blocks) declared_sites stated_sites right) in
     record {
       nested =
-          lies_by spot ds ss order decls_right stmts_right (named_blocks spot ds ss order named.0 named.1) (nil_map _ _ unknown) (nil_map _ _ twice) (nil_front _ _ (nil_map _ _ levels)) (nil_map _ _ cells) (nil_map _ _ many) (nil_map _ _ wrong) (nil_map _ _ assigned);
-      short = short_segments (tree.program (tree.body spot ds ss)) (nil_map _ _ long);
+          lies_by spot ds ss order decls_right stmts_right (named_blocks spot ds ss order named.0 named.1) (none_mapped _ _ unknown) (none_mapped _ _ twice) (append_none_left _ _ (none_mapped _ _ levels)) (none_mapped _ _ cells) (none_mapped _ _ many) (none_mapped _ _ wrong) (none_mapped _ _ assigned);
+      short = short_segments (tree.program (tree.body spot ds ss)) (none_mapped _ _ long);
     }

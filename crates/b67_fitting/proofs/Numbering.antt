@@ -6,8 +6,10 @@ use Rattle.std.specs.List.{AllByRecursion}
 use Rattle.algol_tree.specs.declared.token.Spot.{Spot}
 use Rattle.algol_tree.specs.Accepted.{is_before}
 use Rattle.algol_tree.specs.Ascending.{Ascends}
-use Rattle.algol_tree.specs.Blocks.{Block, same_spot, number_at, block_numbered}
+use Rattle.algol_tree.specs.Blocks.{Block, same_spot, number_at}
 use Rattle.algol_tree.specs.Scopes.{Use, declared_in}
+use Rattle.algol_tree.proofs.Spots.{before_apart, before_on, same_spot_itself}
+use Rattle.b67_list.proofs.Lists.{each_at}
 
 -- ---- how often a place stands in a list
 
@@ -35,15 +37,6 @@ pub places_both : (s : Spot) (xs ys : List Spot) → places s (xs ++ ys) ≡ pla
 places_both s xs ys = times_both (λ (t : Spot). t) s xs ys
 
 -- ---- places that ascend
-
-pub same_self : (s : Spot) → same_spot s s ≡ true
-same_self s = grind (arith, nat_tests)
-
-pub before_on : (a b c : Spot) → is_before a b ≡ true → is_before b c ≡ true → is_before a c ≡ true
-before_on a b c p q = grind (arith, nat_tests)
-
-before_apart : (a b : Spot) → is_before a b ≡ true → same_spot a b ≡ false
-before_apart a b p = grind (arith, nat_tests)
 
 same_before : (a b c : Spot) → same_spot a b ≡ true → is_before b c ≡ true → is_before a c ≡ true
 same_before a b c p q = grind (arith, nat_tests)
@@ -96,7 +89,7 @@ module _ {X : Type 0} (place : X → Spot) where
   pub once_apart : (xs : List X) → ((s : Spot) → times place s xs ≤ 1) → Apart xs
   once_apart [] h = tt
   once_apart (x ∷ xs) h =
-      (none_there (place x) xs (omega (arith, h (place x), is_here (place x) (place x) (same_self (place x)))), once_apart xs (λ s. omega (arith, h s)))
+      (none_there (place x) xs (omega (arith, h (place x), is_here (place x) (place x) (same_spot_itself (place x)))), once_apart xs (λ s. omega (arith, h s)))
 
 -- ---- uses
 
@@ -113,7 +106,7 @@ there_later u us (v ∷ vs) h t = (ap (λ (b : Bool). if b then Some u else decl
 pub all_there : (us : List Use) → Apart use_place us → AllByRecursion (IsThere us) us
 all_there [] h = tt
 all_there (u ∷ us) h =
-    (ap (λ (b : Bool). if b then Some u else declared_in us u.spot) (same_self u.spot), there_later u us us h.0 (all_there us h.1))
+    (ap (λ (b : Bool). if b then Some u else declared_in us u.spot) (same_spot_itself u.spot), there_later u us us h.0 (all_there us h.1))
 
 -- ---- blocks
 
@@ -132,16 +125,11 @@ numbered_later b bs [] h t = tt
 numbered_later b bs (c ∷ cs) h t = (ap (slice_get (b ∷ bs)) (number_later b bs c.spot h.0) ∙ t.0, numbered_later b bs cs h.1 t.1)
 
 pub number_first : (b : Block) (bs : List Block) → number_at (b ∷ bs) b.spot ≡ 0
-number_first b bs = ap (λ (t : Bool). if t then 0 else number_at bs b.spot + 1) (same_self b.spot)
+number_first b bs = ap (λ (t : Bool). if t then 0 else number_at bs b.spot + 1) (same_spot_itself b.spot)
 
 pub all_numbered : (bs : List Block) → Apart block_place bs → AllByRecursion (IsNumbered bs) bs
 all_numbered [] h = tt
 all_numbered (b ∷ bs) h = (ap (slice_get (b ∷ bs)) (number_first b bs), numbered_later b bs bs h.0 (all_numbered bs h.1))
-
-pub each_at : {X : Type 0} (P : X → Type 0) (xs : List X) (i : ℕ) (x : X) → AllByRecursion P xs → slice_get xs i ≡ Some x → P x
-each_at P [] i x h e = absurd (let clash : None ≡ Some x = e in cc)
-each_at P (y ∷ xs) zero x h e = let same : y ≡ x = cc in subst P same h.0
-each_at P (y ∷ xs) (suc i) x h e = each_at P xs i x h.1 e
 
 -- the block with a number has that number by its place
 pub number_is : (bs : List Block) (i : ℕ) (b : Block) → Apart block_place bs → slice_get bs i ≡ Some b → number_at bs b.spot ≡ i
@@ -149,6 +137,3 @@ number_is [] i b h e = absurd (let clash : None ≡ Some b = e in cc)
 number_is (c ∷ bs) zero b h e = let same : c ≡ b = cc in subst (λ (z : Block). number_at (c ∷ bs) z.spot ≡ 0) same (number_first c bs)
 number_is (c ∷ bs) (suc i) b h e =
     number_later c bs b.spot (each_at (λ z. same_spot c.spot z.spot ≡ false) bs i b h.0 e) ∙ ap suc (number_is bs i b h.1 e)
-
-pub block_is : (bs : List Block) (i : ℕ) (b : Block) → slice_get bs i ≡ Some b → block_numbered bs i ≡ b
-block_is bs i b h = rw h refl

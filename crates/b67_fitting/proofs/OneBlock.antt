@@ -13,6 +13,7 @@ use Rattle.algol_tree.specs.Plain.{PStmts, PDecls}
 use Rattle.algol_tree.specs.Scopes.{Scopes}
 use Rattle.algol_tree.specs.Sites.{Site}
 use Rattle.algol_tree.specs.Sorts.{same_name}
+use Rattle.algol_tree.proofs.Trees.{block_is}
 use Rattle.algol_meaning.specs.Statements.{items_of}
 use Rattle.algol_paths.specs.Blocks.{BlockIsSeen, IsSeenAround, IsInner}
 use Rattle.algol_paths.specs.Laws.{ItemsKeepToText}
@@ -20,10 +21,11 @@ use Rattle.algol_paths.specs.Texts.{InStmts}
 use Rattle.b67_templates.specs.Cells.{simple_cells, result_cells_of, variables, procedures, actuals_in_decls, actuals_in_stmts, actuals_of, made_of}
 use Rattle.b67_templates.specs.Names.{DeclsNamed}
 use Rattle.b67_templates.specs.Nested.{IsDeclared, AreParameters, IsText}
+use Rattle.b67_list.proofs.Lists.{each_back, each_front}
 use Rattle.b67_fitting.proofs.BlockItems.{in_items}
 use Rattle.b67_fitting.proofs.Bounds.{InBounds}
-use Rattle.b67_fitting.proofs.Lists.{each_front, each_back, each_of}
-use Rattle.b67_fitting.proofs.Numbering.{IsNumbered, block_is}
+use Rattle.b67_fitting.proofs.Lists.{each_of}
+use Rattle.b67_fitting.proofs.Numbering.{IsNumbered}
 use Rattle.b67_fitting.proofs.Callees.{IsNamed, AreNamed, AreCallees}
 use Rattle.b67_fitting.proofs.Surrounded.{IsGood, AreGood, IsKept, AreKept}
 use Rattle.b67_fitting.proofs.CellsFew.{cells_both, simple_many, parameters_many}

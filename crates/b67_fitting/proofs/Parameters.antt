@@ -7,10 +7,10 @@ use Rattle.algol_tree.specs.Ascending.{spots_of_decl, spots_of_decls}
 use Rattle.algol_tree.specs.Blocks.{Block, block_numbered, number_at}
 use Rattle.algol_tree.specs.Plain as tree
 use Rattle.algol_tree.specs.Plain.{PStmt, PDecl, PDecls}
+use Rattle.algol_tree.proofs.Spots.{same_spot_itself}
 use Rattle.b67_templates.specs.Cells.{parameters_in, parameters_declared, parameters_around}
+use Rattle.b67_list.proofs.Lists.{each_back}
 use Rattle.b67_fitting.proofs.Apart.{IsIn, in_each, in_back, IsApart, Apart, apart_from}
-use Rattle.b67_fitting.proofs.Lists.{each_back}
-use Rattle.b67_fitting.proofs.Numbering.{same_self}
 
 -- ---- where the heading is found
 
@@ -38,7 +38,7 @@ last_step all (tree.procedure g t) ds p l =
 last_step all d ds p l = λ s i. l s (in_back s (spots_of_decl d) (spots_of_decls ds) i)
 
 pub found_last : (all : PDecls) (g : Heading) (ds : PDecls) (t : PStmt) → AreLast all (tree.decls (tree.procedure g t) ds) → parameters_declared all g.name.spot ≡ parameters_in g
-found_last all g ds t l = l g.name.spot (inl refl) ∙ ap (λ (b : Bool). if b then parameters_in g else parameters_declared ds g.name.spot) (same_self g.name.spot)
+found_last all g ds t l = l g.name.spot (inl refl) ∙ ap (λ (b : Bool). if b then parameters_in g else parameters_declared ds g.name.spot) (same_spot_itself g.name.spot)
 
 pub around_is : (blocks : List Block) (c : Block) (s : Spot) → block_numbered blocks (number_at blocks c.spot) ≡ c → parameters_around blocks (c.spot ∷ c.outer) s ≡ parameters_declared c.decls s
 around_is blocks c s e = ap (λ (z : Block). parameters_declared z.decls s) e

@@ -10,7 +10,7 @@ use Rattle.algol_tree.specs.Cells as cells
 use Rattle.algol_tree.specs.Cells.{cells_for}
 use Rattle.algol_tree.specs.Names.{name_is_one_of}
 use Rattle.algol_tree.specs.Sorts.{same_name, Declared, declared_parameters, is_named_in, sort_in, class_in}
-use Rattle.algol_meaning.proofs.Naming.{same_name-itself}
+use Rattle.algol_tree.proofs.Names.{same_name_itself}
 use Rattle.b67_templates.specs.Cells.{parameters_in}
 use Rattle.b67_fitting.proofs.Among.{Among, keep, none_among}
 use Rattle.b67_fitting.proofs.Apart.{IsIn, IsApart}
@@ -43,7 +43,7 @@ module _ (block depth : ℕ) (h : Heading) (known : List Declared) where
       by : (b : Bool) → same_name m.name n.name ≡ b → (IsIn n ns → name_is_one_of (names_of block (map entry ns ++ known)) n.name ≡ true) → IsIn n (m ∷ ns) →
           (if b then true else name_is_one_of (names_of block (map entry ns ++ known)) n.name) ≡ true
       by true e later j = refl
-      by false e later (inl same) = absurd (let clash : true ≡ false = sym (same_name-itself n.name) ∙ ap (λ (z : Named). same_name z.name n.name) same ∙ e in cc)
+      by false e later (inl same) = absurd (let clash : true ≡ false = sym (same_name_itself n.name) ∙ ap (λ (z : Named). same_name z.name n.name) same ∙ e in cc)
       by false e later (inr j) = later j
 
   pub given_passed : (spots : List Spot) → AllByRecursion (λ s. AllByRecursion (IsApart s) spots) (spots_of_names h.params) →

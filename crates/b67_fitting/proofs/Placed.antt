@@ -21,6 +21,7 @@ use Rattle.algol_tree.specs.Sorts as sort
 use Rattle.algol_tree.specs.Sorts.{Sort, Declared, Parameter, is_variable, is_named_in, sort_in, class_in, parameters_of, formals_of, procedure_in}
 use Rattle.algol_tree.specs.Surroundings.{Surroundings, class_of, formals_of_class, formals_at, knowing, knowing_all}
 use Rattle.algol_tree.specs.Types.{taken_by}
+use Rattle.algol_tree.proofs.Trees.{same_depth}
 use Rattle.algol_meaning.specs.Settle.{sorts_of, block_of_sort}
 use Rattle.algol_meaning.specs.Statements.{alone}
 use Rattle.b67_ops.specs.declared.Couple.{Couple}
@@ -28,6 +29,7 @@ use Rattle.b67_ops.specs.declared.TheConstants.{MOST_LEVEL, OUTER_LEVEL}
 use Rattle.algol_paths.specs.Arrays.{Shape, shape_in}
 use Rattle.b67_templates.specs.Cells.{Simple, Wanted, by_name, parameters_in, parameter_cells, parameter_wants, variables, procedures, made_of, Actual, own_actual, wants_of, actuals_in, actuals_among, actuals_given, actuals_in_pairs, actuals_in_decls, actuals_in_stmt, actuals_in_stmts, actuals_in_block, actuals_of, actual_base}
 use Rattle.b67_templates.specs.Fitting.{Told, meant_is_event, EventFits, LabelFits, TaskFits, ReadFits, PlaceFits, NameActualFits, names, ProcedureFits, CallFits, ArrayFits, ExprFits, SubscriptsFit, ActualsFit, LineFits, ElementAssignFits, BoundsFit, DeclsFit, StmtFits, StmtsFit}
+use Rattle.b67_list.proofs.Lists.{each_back, each_both, each_front}
 use Rattle.b67_fitting.specs.Wholes.{HaveDimensions}
 use Rattle.b67_fitting.specs.Typing.{HeadingSpecified, IsArrayActual, IsEventActual, IsEventful, TypedPairs, IsResult, IsLeftSide, TypedStmt, TypedStmts, TypedDecls, AreEventful, IsOf, IsFunction, IsTasked, TypedExpr, TypedActual, TypedActuals, TypedLine}
 use Rattle.b67_fitting.proofs.Actuals.{name_alone, event_name}
@@ -35,16 +37,11 @@ use Rattle.b67_fitting.proofs.Apart.{IsIn, in_front, in_back}
 use Rattle.b67_fitting.proofs.Declares.{begun}
 use Rattle.b67_fitting.proofs.Listed as listing
 use Rattle.b67_fitting.proofs.Listed.{AllThere, reads_in, lefts_in, IsBlock, Listed, over, passed, turned, site, declared, both, block, procedure}
-use Rattle.b67_fitting.proofs.Lists.{each_front, each_back, each_both, map_none}
+use Rattle.b67_fitting.proofs.Lists.{map_none}
 use Rattle.b67_fitting.proofs.Typed.{as_formal, actual_part_is}
 use Rattle.b67_fitting.proofs.Wanting.{wanted_of, wanted_value, wanted_name, wanted_array, wanted_event}
 use Rattle.b67_fitting.proofs.Given.{wants_in}
 use Rattle.b67_fitting.proofs.Specified.{IsSpecified, as_value, as_name, as_array, as_event, AreSpecified, specified}
-
--- the depth is that of the block
-same_depth : (blocks : List Block) (ds : PDecls) (a : Surroundings) → (knowing_all blocks ds a).depth ≡ a.depth
-same_depth blocks tree.no_decls a = refl
-same_depth blocks (tree.decls d ds) a = same_depth blocks ds (knowing blocks d ds a)
 
 -- .. and so is its number
 pub same_number : (blocks : List Block) (ds : PDecls) (a : Surroundings) → (knowing_all blocks ds a).block ≡ a.block

@@ -15,13 +15,15 @@ use Rattle.algol_tree.specs.Scopes.{Scopes, Use, used, use_by, left_use, left_us
 use Rattle.algol_tree.specs.Sites.{Site, here_stmt}
 use Rattle.algol_tree.specs.Sorts.{Sort, Declared, procedure_in}
 use Rattle.algol_tree.specs.Surroundings.{Surroundings, declared_as, class_of}
+use Rattle.algol_tree.proofs.Trees.{use_is}
 use Rattle.algol_meaning.specs.Settle.{block_of_sort}
 use Rattle.algol_paths.specs.Arrays.{lows_at}
 use Rattle.b67_templates.specs.Cells.{Simple, parameters_in, parameter_cells, parameter_wants}
 use Rattle.b67_templates.specs.Fitting.{Told, EventFits}
+use Rattle.b67_list.proofs.Lists.{each_both}
 use Rattle.b67_fitting.proofs.ActualsFound.{IsTelling, SiteTells}
 use Rattle.b67_fitting.proofs.Apart.{IsIn, in_each, in_front, in_back, in_flat}
-use Rattle.b67_fitting.proofs.Coupled.{the_use, result_use, use_is, AreTold, IsProgram, scopes, used_at, known_at_place, inside_deep, variable_fits, name_fits, procedure_fits, result_fits}
+use Rattle.b67_fitting.proofs.Coupled.{the_use, result_use, AreTold, IsProgram, scopes, used_at, known_at_place, inside_deep, variable_fits, name_fits, procedure_fits, result_fits}
 use Rattle.b67_fitting.proofs.CoupledArrays.{HaveActs, row_fits}
 use Rattle.b67_fitting.proofs.CoupledEvents.{task_fits, event_fits, formal_event_fits, label_fits}
 use Rattle.b67_fitting.proofs.CoupledFormals.{formal_fits}
@@ -29,7 +31,6 @@ use Rattle.b67_fitting.proofs.Blocked.{numbered}
 use Rattle.b67_fitting.proofs.Known.{IsOwned, Stands}
 use Rattle.b67_fitting.proofs.Listed as listing
 use Rattle.b67_fitting.proofs.Listed.{IsFair, Listed, over, passed, turned, site, declared, both, block, procedure}
-use Rattle.b67_fitting.proofs.Lists.{each_both}
 use Rattle.b67_fitting.proofs.LowsFound.{held_none, named_none, owned_none}
 use Rattle.b67_fitting.proofs.Meant as meant
 use Rattle.b67_fitting.proofs.Meant.{IsSimpleAs, held, declared_simple, declared_array, declared_procedure, declared_event, declared_label, IsEventAs, event_of, task_of, labelled_of, held_of, IsArrayAs, of_block, of_parameter, arrayed_of, owned_of}

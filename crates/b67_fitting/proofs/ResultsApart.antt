@@ -12,9 +12,10 @@ use Rattle.algol_tree.specs.Plain.{PStmt, PStmts, PDecls, PBody}
 use Rattle.algol_tree.specs.Sites.{Site, sites, here_stmt, inside_stmt, inside_decl, sites_in_stmts, sites_in_decls, sites_in_body, has_decls}
 use Rattle.algol_tree.specs.Sorts.{Parameter, Declared, same_name, is_named_in, sort_in}
 use Rattle.algol_tree.specs.Surroundings.{Surroundings, declared_as, knowing, knowing_all, inside, inside_procedure}
-use Rattle.algol_meaning.proofs.Naming.{same_name-itself, same_name-is}
+use Rattle.algol_tree.proofs.Names.{same_name_is, same_name_itself}
+use Rattle.algol_tree.proofs.Spots.{not_so}
 use Rattle.b67_templates.specs.Cells.{Simple, found_from}
-use Rattle.b67_fitting.proofs.Lists.{each_front, each_back, each_both, each_map, nil_front, nil_back, not_so}
+use Rattle.b67_list.proofs.Lists.{append_none_left, append_none_right, each_back, each_both, each_front, each_map}
 
 -- ---- one heading
 
@@ -23,13 +24,13 @@ pub none_named : (seen : List (List ℕ)) (ns : List Named) (name : List ℕ) �
     AllByRecursion (λ (n : Named). same_name n.name name ≡ false) ns
 none_named seen [] name s e = tt
 none_named seen (n ∷ ns) name s e =
-    (by (same_name n.name name) refl, none_named (n.name ∷ seen) ns name (either (same_name n.name name)) (nil_back (if_so (name_is_one_of seen n.name) n.spot) (repeated (n.name ∷ seen) ns) e))
+    (by (same_name n.name name) refl, none_named (n.name ∷ seen) ns name (either (same_name n.name name)) (append_none_right (if_so (name_is_one_of seen n.name) n.spot) (repeated (n.name ∷ seen) ns) e))
   where
     by : (b : Bool) → same_name n.name name ≡ b → b ≡ false
     by false f = refl
     by true f =
-        let other : name_is_one_of seen n.name ≡ false = not_so (name_is_one_of seen n.name) n.spot (nil_front (if_so (name_is_one_of seen n.name) n.spot) (repeated (n.name ∷ seen) ns) e) in
-        let clash : true ≡ false = sym s ∙ ap (name_is_one_of seen) (sym (same_name-is n.name name f)) ∙ other in
+        let other : name_is_one_of seen n.name ≡ false = not_so (name_is_one_of seen n.name) n.spot (append_none_left (if_so (name_is_one_of seen n.name) n.spot) (repeated (n.name ∷ seen) ns) e) in
+        let clash : true ≡ false = sym s ∙ ap (name_is_one_of seen) (sym (same_name_is n.name name f)) ∙ other in
         clash
 
     either : (b : Bool) → (if b then true else name_is_one_of seen name) ≡ true
@@ -41,7 +42,7 @@ pub result_other : (h : Heading) (kind : Kind) (name : List ℕ) → h.kind ≡ 
     AllByRecursion (λ (n : Named). same_name n.name name ≡ false) h.params
 result_other h kind name typed s e =
     none_named (h.name.name ∷ []) h.params name (ap (λ (b : Bool). if b then true else false) s)
-    (subst (λ (o : Option Kind). repeated (if is_some o then h.name.name ∷ [] else []) h.params ≡ []) typed (nil_front (repeated (result_names h) h.params) (repeated [] (specified h)) e))
+    (subst (λ (o : Option Kind). repeated (if is_some o then h.name.name ∷ [] else []) h.params ≡ []) typed (append_none_left (repeated (result_names h) h.params) (repeated [] (specified h)) e))
 
 -- each of these parameters has another name
 abbrev pub AreOther : List ℕ → List Parameter → Type 0
@@ -54,7 +55,7 @@ IsClear b = (kind : Kind) → b.result ≡ Some kind → AreOther b.name b.param
 clear_heading : (h : Heading) (t : PStmt) (outer : List Spot) → twice_in_heading h ≡ [] → IsClear (procedure_block h t outer)
 clear_heading h t outer e kind typed =
     each_map (λ (p : Parameter). same_name p.name h.name.name ≡ false) (λ (n : Named). record { name = n.name; sort = sort_in h.specs (is_named_in h.values n.name) n.name }) h.params
-    (result_other h kind h.name.name typed (same_name-itself h.name.name) e)
+    (result_other h kind h.name.name typed (same_name_itself h.name.name) e)
 
 -- so the name is not found among the cells of the same names
 pub none_found : (from : ℕ) (own : List ℕ) (ps : List Parameter) (ss : List Simple) → map (λ (p : Parameter). p.name) ps ≡ map (λ (c : Simple). c.name) ss → AreOther own ps → found_from from ss own ≡ None
@@ -129,7 +130,7 @@ module _ (blocks : List Block) where
         let k : Surroundings = knowing blocks (tree.procedure h t) ds a in
         let these = inside_decl blocks (tree.procedure h t) k first in
         let those = sites_in_decls blocks ds k first in
-        let twice = nil_back (if is_announced_by a.block h (declared_as a h.name) then [] else twice_here blocks a (h.name ∷ [])) (twice_in_heading h) o.0 in (
+        let twice = append_none_right (if is_announced_by a.block h (declared_as a h.name) then [] else twice_here blocks a (h.name ∷ [])) (twice_in_heading h) o.0 in (
           clear_heading h t outer twice,
           both (blocks_of t of_procedure (h.name.spot ∷ outer)) (blocks_in_decls ds outer)
               (in_stmt t of_procedure false (inside_procedure blocks h k) (h.name.spot ∷ outer) ((front these those o.1).1)) (in_decls ds k first outer (back these those o.1)),

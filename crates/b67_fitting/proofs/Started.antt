@@ -19,21 +19,22 @@ use Rattle.algol_tree.specs.Sites as parts
 use Rattle.algol_tree.specs.Sorts as sort
 use Rattle.algol_tree.specs.Sorts.{same_name, Sort, Declared, look_up, declare}
 use Rattle.algol_tree.specs.Surroundings.{Surroundings, body_of, heading_or, announced, knowing}
-use Rattle.algol_meaning.proofs.Naming.{same_name-itself, same_name-is}
+use Rattle.algol_tree.proofs.Names.{same_name_is, same_name_itself}
+use Rattle.algol_tree.proofs.Trees.{among_behind}
 use Rattle.algol_paths.specs.Arrays.{an_array, an_event}
 use Rattle.b67_templates.specs.Cells.{Simple, value, of_kind, variables, made_of, parameters_in, parameters_around}
 use Rattle.b67_templates.specs.Labels.{labels_in}
 use Rattle.b67_templates.specs.Code.{AreDimensions}
+use Rattle.b67_list.proofs.Lists.{append_none_left, each_back, each_both}
 use Rattle.b67_fitting.specs.Typing.{HeadingSpecified, TypedPairs, IsEventful, TypedDecls, IsDeclared}
 use Rattle.b67_fitting.proofs.Aligned.{AreOthers, Aligned, aligned_over, hit}
 use Rattle.b67_fitting.proofs.Apart.{IsIn, each_in, in_front, in_back, IsApart, Apart, apart_front, apart_across}
 use Rattle.b67_fitting.proofs.Arrayed.{IsMade, event_of, made_names, AreMadePassed, made_begin, made_step, IsThere, array_there, event_there, task_there}
 use Rattle.b67_fitting.proofs.TypedBounds.{lows_whole}
-use Rattle.b67_fitting.proofs.Declaring.{one_of_front, one_of_back, names_of, names_both, one_more, one_front, entry, declared_is, found_one, fresh}
+use Rattle.b67_fitting.proofs.Declaring.{one_of_front, one_of_back, names_of, names_both, one_front, entry, declared_is, found_one, fresh}
 use Rattle.b67_fitting.proofs.Frames.{named_around, variable_cells, made_cells}
 use Rattle.b67_fitting.proofs.Known.{given_cells, given_places, variable_spots, headings, IsKnown, known_file, known_variable, known_array, known_event, known_label, known_procedure, around_with, Stands, HasLows}
 use Rattle.b67_fitting.proofs.Later.{declared_name, later}
-use Rattle.b67_fitting.proofs.Lists.{each_back, each_both, nil_front}
 
 -- ---- names that the block has already
 
@@ -51,7 +52,7 @@ passed_both names spots (x ∷ xs) ys [] ds g h = absurd g
 
 passed_more : (more names : List (List ℕ)) (p q : List Spot) (xs : List Simple) (cs : List Cell) → Passed names (p ++ q) xs cs → Passed (more ++ names) q xs cs
 passed_more more names p q [] [] h = tt
-passed_more more names p q (x ∷ xs) (c ∷ cs) h = (one_more more names x.name h.0, each_back (IsApart c.spot) p q h.1, passed_more more names p q xs cs h.2)
+passed_more more names p q (x ∷ xs) (c ∷ cs) h = (among_behind more names x.name h.0, each_back (IsApart c.spot) p q h.1, passed_more more names p q xs cs h.2)
 passed_more more names p q [] (c ∷ cs) h = absurd h
 passed_more more names p q (x ∷ xs) [] h = absurd h
 
@@ -67,7 +68,7 @@ other_named names name x n h = by (same_name x.name name) refl
     by : (b : Bool) → same_name x.name name ≡ b → b ≡ false
     by false e = refl
     by true e =
-        let clash : true ≡ false = sym h ∙ ap (name_is_one_of names) (same_name-is x.name name e) ∙ n in
+        let clash : true ≡ false = sym h ∙ ap (name_is_one_of names) (same_name_is x.name name e) ∙ n in
         clash
 
 passed_named : (names : List (List ℕ)) (spots : List Spot) (name : List ℕ) (xs : List Simple) (cs : List Cell) → name_is_one_of names name ≡ false → Passed names spots xs cs →
@@ -102,7 +103,7 @@ named_new block depth s c (m ∷ ns) n i =
     by : (b : Bool) → same_name m.name n.name ≡ b → (IsIn n ns → name_is_one_of (names_of block (declare block depth s c ns)) n.name ≡ true) → IsIn n (m ∷ ns) →
         (if b then true else name_is_one_of (names_of block (declare block depth s c ns)) n.name) ≡ true
     by true e later j = refl
-    by false e later (inl same) = absurd (let clash : true ≡ false = sym (same_name-itself n.name) ∙ ap (λ (z : Named). same_name z.name n.name) same ∙ e in cc)
+    by false e later (inl same) = absurd (let clash : true ≡ false = sym (same_name_itself n.name) ∙ ap (λ (z : Named). same_name z.name n.name) same ∙ e in cc)
     by false e later (inr j) = later j
 
 -- ---- declarations
@@ -150,9 +151,9 @@ label_hit block depth (n ∷ ns) name d h = by (same_name n.name name) refl (lab
           sort_is = refl;
           block_is = refl;
           depth_is = refl;
-          name_is = same_name-is n.name name e;
+          name_is = same_name_is n.name name e;
           one = n;
-          one_name = same_name-is n.name name e;
+          one_name = same_name_is n.name name e;
           one_spot = refl;
           among = inl refl;
         })
@@ -458,7 +459,7 @@ module _ (blocks : List Block) where
       (λ n i. in_back n ns (labels_in ds) i)
   step b a first (tree.forward h) ds s t p =
       let g = announced h ds in
-      let there = announced_there h ds (body_of h.name.name ds) h.name.spot refl (nil_front (if_so (not (is_some (body_of h.name.name ds))) h.name.spot) (unknown_in_heading h) t.0.known) in
+      let there = announced_there h ds (body_of h.name.name ds) h.name.spot refl (append_none_left (if_so (not (is_some (body_of h.name.name ds))) h.name.spot) (unknown_in_heading h) t.0.known) in
       step_with b a (tree.forward h) ds (declare a.block a.depth (sort.procedure (number_at blocks g.name.spot)) (class.procedure g) (g.name ∷ [])) s refl refl (λ f i. i) (λ x i. i)
       (procedure_known b a (tree.decls (tree.forward h) ds) g s there) (λ n i. absurd i) p (λ z i. i)
   step b a first (tree.procedure h body) ds s t p =

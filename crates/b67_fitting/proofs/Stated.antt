@@ -18,12 +18,12 @@ use Rattle.algol_tree.specs.Sorts as sort
 use Rattle.algol_tree.specs.Sorts.{same_name, Sort, Declared, look_up, declare, is_named_in, sort_in, class_in, declared_parameters}
 use Rattle.algol_tree.specs.Surroundings.{Surroundings, class_of, declared_as, formals_of_class, body_of, heading_or, announced, knowing, knowing_all, inside, inside_procedure}
 use Rattle.algol_tree.specs.Types.{element_type}
+use Rattle.b67_list.proofs.Lists.{append_none_left, append_none_right, each_back, each_front}
 use Rattle.b67_fitting.specs.Typing.{HeadingSpecified, IsTasked, is_around, IsLeftSide, TypedStmt, TypedStmts, TypedDecl, TypedDecls}
 use Rattle.b67_fitting.proofs.Headings.{DeclSpecified, DeclsSpecified, StmtSpecified, StmtsSpecified}
 use Rattle.b67_fitting.specs.Texts.{StmtPlain, StmtsPlain, DeclPlain, DeclsPlain}
 use Rattle.b67_fitting.specs.Wholes.{AllWhole, StmtWhole, StmtsWhole, DeclWhole, DeclsWhole}
 use Rattle.b67_fitting.proofs.TypedBounds.{typed_pairs}
-use Rattle.b67_fitting.proofs.Lists.{each_front, each_back, nil_front, nil_back}
 use Rattle.b67_fitting.proofs.Clean.{IsClean, AreClean, IsPlain, simple, array, file, label, event, task, procedure, KnowsPlain, plain_first, misnamed, label_of, eventful_of, as_many, call_of, task_alone, is_untyped, untyped_of, wrong, wrong_for, wrong_if, wrong_list}
 use Rattle.b67_fitting.proofs.Declaring.{found_either, declared_is}
 use Rattle.b67_fitting.proofs.Formats.{fitting_line, fitting_phrases}
@@ -80,13 +80,13 @@ module _ (blocks : List Block) (a : Surroundings) (plain : KnowsPlain a) where
       TypedStmt blocks begin a (tree.for v x s l b)
   looped begin v x s l b listed c hx hs hl hb =
       let all = c.typed in
-      let three = nil_front (wrong_control (class_of a v) v ++ wrong types.Number x a ++ wrong types.Number s a) (wrong types.Number l a) all in
-      let two = nil_front (wrong_control (class_of a v) v ++ wrong types.Number x a) (wrong types.Number s a) three in
-      let control = nil_front (wrong_control (class_of a v) v) (wrong types.Number x a) two in (
+      let three = append_none_left (wrong_control (class_of a v) v ++ wrong types.Number x a ++ wrong types.Number s a) (wrong types.Number l a) all in
+      let two = append_none_left (wrong_control (class_of a v) v ++ wrong types.Number x a) (wrong types.Number s a) three in
+      let control = append_none_left (wrong_control (class_of a v) v) (wrong types.Number x a) two in (
         controls (class_of a v) v (plain_first a plain v [] c.known) c.assigned control,
-        of_kind a types.Number x hx (nil_back (wrong_control (class_of a v) v) (wrong types.Number x a) two),
-        of_kind a types.Number s hs (nil_back (wrong_control (class_of a v) v ++ wrong types.Number x a) (wrong types.Number s a) three),
-        of_kind a types.Number l hl (nil_back (wrong_control (class_of a v) v ++ wrong types.Number x a ++ wrong types.Number s a) (wrong types.Number l a) all),
+        of_kind a types.Number x hx (append_none_right (wrong_control (class_of a v) v) (wrong types.Number x a) two),
+        of_kind a types.Number s hs (append_none_right (wrong_control (class_of a v) v ++ wrong types.Number x a) (wrong types.Number s a) three),
+        of_kind a types.Number l hl (append_none_right (wrong_control (class_of a v) v ++ wrong types.Number x a ++ wrong types.Number s a) (wrong types.Number l a) all),
         hb,
       )
 
@@ -94,7 +94,7 @@ module _ (blocks : List Block) (a : Surroundings) (plain : KnowsPlain a) where
   tasked : (n : Named) (es : PExprs) (named : Option Named) (listed : Bool) → IsClean blocks (here_stmt (tree.process (tree.called n es) named) listed a) → IsTasked a named
   tasked n es None listed c = tt
   tasked n es (Some m) listed c =
-      task_alone (class_of a m) m.spot (plain_first a plain m _ (nil_back (if_so (not (is_some (declared_as a n))) n.spot) _ c.known)) (nil_back (misnamed is_untyped (class_of a n) n.spot) _ c.typed)
+      task_alone (class_of a m) m.spot (plain_first a plain m _ (append_none_right (if_so (not (is_some (declared_as a n))) n.spot) _ c.known)) (append_none_right (misnamed is_untyped (class_of a n) n.spot) _ c.typed)
 
   -- of an element the value has the kind of the array
   stored : (begin : Begin) (n : Named) (i : PExpr) (is : PExprs) (e : PExpr) (listed : Bool) → AllWhole (tree.more i is) → AreClean blocks (inside_list (tree.more i is) a) →
@@ -104,9 +104,9 @@ module _ (blocks : List Block) (a : Surroundings) (plain : KnowsPlain a) where
       let named = misnamed is_array (class_of a n) n.spot in
       let numbers = wrong_list types.Number es a in
       let value = wrong_for (element_type (class_of a n)) e a in
-      let two = nil_front (named ++ numbers) value c.typed in
-      let r = elements blocks a plain n es c.known (nil_front named numbers two) c.counted in
-      (r.0, r.1, typed_line blocks a plain es w s (nil_back named numbers two), of_kind a r.0 e h (wrong_if r.0 (element_type (class_of a n)) e a (ap element_type r.1) (nil_back (named ++ numbers) value c.typed)))
+      let two = append_none_left (named ++ numbers) value c.typed in
+      let r = elements blocks a plain n es c.known (append_none_left named numbers two) c.counted in
+      (r.0, r.1, typed_line blocks a plain es w s (append_none_right named numbers two), of_kind a r.0 e h (wrong_if r.0 (element_type (class_of a n)) e a (ap element_type r.1) (append_none_right (named ++ numbers) value c.typed)))
 
 -- what is declared is plain
 plain_found : (k : Sort) (c : Class) (block depth : ℕ) (ns : List Named) (known : List Declared) → IsPlain c → ((name : List ℕ) (d : Declared) → look_up known name ≡ Some d → IsPlain d.class) →
@@ -248,7 +248,7 @@ module _ (blocks : List Block) where
     stated begin a plain (tree.case e ss) listed b w t c i =
         (of_kind a types.Number e (typed blocks a plain e w.0 (each_front (IsClean blocks) (sites e a) (sites_in_stmts blocks ss false a) i)) c.typed, all_stated a plain ss false b w.1 t (each_back (IsClean blocks) (sites e a) (sites_in_stmts blocks ss false a) i))
     stated begin a plain (tree.process (tree.called n es) named) listed b w t c i =
-        let f = untyped_of (class_of a n) n.spot (plain_first a plain n _ c.known) (nil_front (misnamed is_untyped (class_of a n) n.spot) _ c.typed) in
+        let f = untyped_of (class_of a n) n.spot (plain_first a plain n _ c.known) (append_none_left (misnamed is_untyped (class_of a n) n.spot) _ c.typed) in
         let many = as_many (class_of a n) f.heading (exprs_count es) n.spot f.class_is c.counted in
         let inside = subst (λ (d : Class). AreClean blocks (inside_actuals es (formals_of_class d) a)) f.class_is i in (
           f.heading,
@@ -261,7 +261,7 @@ module _ (blocks : List Block) where
     stated begin a plain (tree.event act e) listed b w t c i =
         eventful_of e.task (class_of a e.name) e.name.spot (plain_first a plain e.name [] c.known) c.typed
     stated begin a plain (tree.write n spot phrases es) listed b w t c i =
-        (fitting_phrases phrases es spot t c.lined c.narrow, fitting_line phrases es spot c.lined, typed_line blocks a plain es w i (nil_back (misnamed is_file (class_of a n) n.spot) (wrong_list types.Number es a) c.typed))
+        (fitting_phrases phrases es spot t c.lined c.narrow, fitting_line phrases es spot c.lined, typed_line blocks a plain es w i (append_none_right (misnamed is_file (class_of a n) n.spot) (wrong_list types.Number es a) c.typed))
 
     pub all_stated : (a : Surroundings) → KnowsPlain a → (ss : PStmts) (listed : Bool) → StmtsSpecified ss → StmtsWhole ss → StmtsPlain ss → AreClean blocks (sites_in_stmts blocks ss listed a) → TypedStmts blocks a ss
     all_stated a plain tree.no_stmts listed b w t i = tt

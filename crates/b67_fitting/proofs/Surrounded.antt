@@ -3,7 +3,7 @@
 -- is its result, of the procedure's own block, which is one further in.
 use Rattle.algol_tree.proofs.Alone.{named_alone}
 use Rattle.algol_tree.specs.declared.tree.EventName.{EventName}
-use Rattle.std.proofs.Common.{arith, ◌≡◌, ℕ, ℤ, ◌+◌, ◌-◌, ◌<◌, ◌≤◌, ◌&&◌, not, Bool, true, false, List, [], ◌∷◌, ◌++◌, map, length, is_some, Option, Some, None, refl, sym, ap, ◌∙◌, subst, if◌then◌else◌, suc, slice_get}
+use Rattle.std.proofs.Common.{arith, ◌≡◌, ℕ, ℤ, ◌+◌, ◌-◌, ◌<◌, ◌≤◌, ◌&&◌, not, Bool, true, false, List, [], ◌∷◌, ◌++◌, map, length, is_some, Option, Some, None, refl, sym, ap, ◌∙◌, subst, suc, slice_get}
 use Rattle.std.specs.List.{flat_map, AllByRecursion}
 use Rattle.algol_tree.specs.declared.token.Spot.{Spot}
 use Rattle.algol_tree.specs.declared.tree.Heading.{Heading}
@@ -16,15 +16,18 @@ use Rattle.algol_tree.specs.Classes.{Class, Formal}
 use Rattle.algol_tree.specs.Names.{if_so, places_if, unknown_names}
 use Rattle.algol_tree.specs.Plain as tree
 use Rattle.algol_tree.specs.Plain.{name_alone, PExpr, PExprs, PDecl, PDecls}
-use Rattle.algol_tree.specs.Scopes.{Scopes, Use, used, use_by, left_use, left_uses, uses_at, declared_in, use_of}
+use Rattle.algol_tree.specs.Scopes.{Scopes, Use, used, use_by, left_use, left_uses, uses_at, declared_in}
 use Rattle.algol_tree.specs.Sites.{Site, sites, here, here_stmt, first_formal, other_formals, wants_value, name_part, actual_part, actual_part_by, inside_expr, inside_list, inside_actuals}
 use Rattle.algol_tree.specs.Sorts as sort
-use Rattle.algol_tree.specs.Sorts.{Sort, same_name, Declared, look_up, declare, declared_parameters, is_named_in, sort_in, class_in}
+use Rattle.algol_tree.specs.Sorts.{Sort, Declared, declare, declared_parameters, is_named_in, sort_in, class_in}
 use Rattle.algol_tree.specs.Surroundings.{Surroundings, declared_as, class_of_declared, class_of, formals_at, announced, declare_procedure, knowing, knowing_all, inside_procedure}
+use Rattle.algol_tree.proofs.Spots.{not_so}
+use Rattle.algol_tree.proofs.Trees.{found_known, use_is}
 use Rattle.algol_paths.specs.Blocks.{BlockIsSeen}
 use Rattle.algol_paths.specs.Texts.{InExpr, InExprs}
+use Rattle.b67_list.proofs.Lists.{append_none_left, append_none_right, each_back, each_both, each_front}
 use Rattle.b67_fitting.proofs.Headings.{DeclSpecified, DeclsSpecified}
-use Rattle.b67_fitting.proofs.Lists.{each_front, each_back, each_both, each_of, nil_front, nil_back, not_so, second_so}
+use Rattle.b67_fitting.proofs.Lists.{each_of, second_so}
 use Rattle.b67_fitting.proofs.Numbering.{IsThere}
 use Rattle.b67_fitting.proofs.Specified.{IsSpecified, as_value, as_name, as_array, as_event, AreSpecified, specified}
 use Rattle.b67_fitting.proofs.Callees.{IsCallee, AreCallees, IsChain, is_among, chain_at}
@@ -197,20 +200,6 @@ module _ (blocks : List Block) where
 
 -- ---- names that are used
 
-pub found_known : (P : Declared → Type 0) (known : List Declared) (name : List ℕ) (d : Declared) → AllByRecursion P known → look_up known name ≡ Some d → P d
-found_known P [] name d h g = absurd (let clash : None ≡ Some d = g in cc)
-found_known P (e ∷ known) name d h g = by (same_name e.name name) (found_known P known name d h.1) g
-  where
-    by : (b : Bool) → (look_up known name ≡ Some d → P d) → (if b then Some e else look_up known name) ≡ Some d → P d
-    by true later f =
-        let same : e ≡ d = cc in
-        subst P same h.0
-    by false later f = later f
-
--- what a name is used as
-pub use_is : (sc : Scopes) (n : Named) (u : Use) → declared_in sc.uses n.spot ≡ Some u → use_of sc n ≡ u
-use_is sc n u h = rw h refl
-
 -- No rule of types and of assignments is broken at a part of the tree.
 pub record IsKept (blocks : List Block) (x : Site) : Type 0 where
   pub right : wrong_types blocks x ≡ []
@@ -297,8 +286,8 @@ module _ (sc : Scopes) (j : ℕ) (outer : List Spot) (a : Surroundings) (r : IsA
   all_seen [] k t = tt
   all_seen (n ∷ ns) k t =
       let its = if_so (not (is_some (declared_as a n))) n.spot in (
-        seen_by n (declared_as a n) refl (nil_front its (unknown ns) k) (each_front (IsThere sc.uses) (used a n) (flat_map (used a) ns) t),
-        all_seen ns (nil_back its (unknown ns) k) (each_back (IsThere sc.uses) (used a n) (flat_map (used a) ns) t),
+        seen_by n (declared_as a n) refl (append_none_left its (unknown ns) k) (each_front (IsThere sc.uses) (used a n) (flat_map (used a) ns) t),
+        all_seen ns (append_none_right its (unknown ns) k) (each_back (IsThere sc.uses) (used a n) (flat_map (used a) ns) t),
       )
 
   -- a procedure that is assigned to is around the place
@@ -313,7 +302,7 @@ module _ (sc : Scopes) (j : ℕ) (outer : List Spot) (a : Surroundings) (r : IsA
   pub left_seen : (n : Named) (es : PExprs) (e : PExpr) (listed : Bool) → unknown (n ∷ []) ≡ [] → IsKept sc.blocks (here_stmt (tree.assign (tree.subscripted n es) e) listed a) →
       AllByRecursion (IsThere sc.uses) (left_uses (used a n)) → BlockIsSeen sc j n
   left_seen n es e listed k kept t =
-      left_by n (declared_as a n) refl (nil_front (if_so (not (is_some (declared_as a n))) n.spot) [] k) (stands_inside n es e listed kept) t
+      left_by n (declared_as a n) refl (append_none_left (if_so (not (is_some (declared_as a n))) n.spot) [] k) (stands_inside n es e listed kept) t
 
   -- ---- expressions
 
@@ -329,8 +318,8 @@ module _ (sc : Scopes) (j : ℕ) (outer : List Spot) (a : Surroundings) (r : IsA
     names_known [] k t = tt
     names_known (n ∷ ns) k t =
         let its = if_so (not (is_some (declared_as a n))) n.spot in (
-          known n (ap (λ xs. xs ++ []) (nil_front its (unknown ns) k)) (each_both (IsThere sc.uses) (used a n) [] (each_front (IsThere sc.uses) (used a n) (flat_map (used a) ns) t) tt),
-          names_known ns (nil_back its (unknown ns) k) (each_back (IsThere sc.uses) (used a n) (flat_map (used a) ns) t),
+          known n (ap (λ xs. xs ++ []) (append_none_left its (unknown ns) k)) (each_both (IsThere sc.uses) (used a n) [] (each_front (IsThere sc.uses) (used a n) (flat_map (used a) ns) t) tt),
+          names_known ns (append_none_right its (unknown ns) k) (each_back (IsThere sc.uses) (used a n) (flat_map (used a) ns) t),
         )
 
     mutual

@@ -14,10 +14,12 @@ use Rattle.algol_tree.specs.Plain.{PExpr, PExprs, PPair, PStmt, PStmts, PDecls, 
 use Rattle.algol_tree.specs.Sites.{Site, sites, other_formals, inside_expr, inside_list, inside_actuals, sites_in_pairs, here_stmt, inside_stmt, sites_in_stmts, sites_in_decls, has_decls}
 use Rattle.algol_tree.specs.Sorts.{Declared}
 use Rattle.algol_tree.specs.Surroundings.{Surroundings, outermost, formals_at, knowing, knowing_all, inside_begin, inside_procedure}
+use Rattle.algol_tree.proofs.Trees.{block_is}
+use Rattle.b67_list.proofs.Lists.{append_none_left, each_back, each_both, each_front, none_mapped}
 use Rattle.b67_fitting.proofs.Headings.{DeclsSpecified, StmtSpecified, StmtsSpecified}
 use Rattle.b67_fitting.proofs.HeadingsTyped.{IsTyped, in_decls as specified_decls, in_stmts as specified_stmts}
-use Rattle.b67_fitting.proofs.Lists.{each_front, each_back, each_both, nil_front, nil_map, nil_each}
-use Rattle.b67_fitting.proofs.Numbering.{IsNumbered, block_is, all_numbered, number_is}
+use Rattle.b67_fitting.proofs.Lists.{nil_each}
+use Rattle.b67_fitting.proofs.Numbering.{IsNumbered, all_numbered, number_is}
 use Rattle.b67_fitting.proofs.Callees.{IsNamed, AreNamed, AreCallees, are_callees}
 use Rattle.b67_fitting.proofs.Surrounded.{IsKnown, IsAround, knows_one, knows_all, enters, enters_procedure}
 use Rattle.b67_fitting.proofs.OneBlock.{the_block}
@@ -226,12 +228,12 @@ module _ (blocks : List Block) where
 -- the names of each part are known where it stands
 each_named : (p : PProgram) → Accepted p → AreNamed (sites_of p)
 unfolding scope_faults
-each_named p accepted = nil_each unknown_names (sites_of p) (nil_map _ _ (nil_front _ _ (nil_front _ _ (nil_front _ _ (nil_front _ _ (nil_front _ _ accepted.scoped))))))
+each_named p accepted = nil_each unknown_names (sites_of p) (none_mapped _ _ (append_none_left _ _ (append_none_left _ _ (append_none_left _ _ (append_none_left _ _ (append_none_left _ _ accepted.scoped))))))
 
 -- no rule of types is broken at a part
 each_typed : (p : PProgram) → Accepted p → AllByRecursion (IsTyped (blocks_of_program p)) (sites_of p)
 unfolding check_faults
-each_typed p accepted = nil_each (wrong_types (blocks_of_program p)) (sites_of p) (nil_map _ _ (nil_front _ _ (nil_front _ _ (nil_front _ _ (nil_front _ _ (nil_front _ _ accepted.checked))))))
+each_typed p accepted = nil_each (wrong_types (blocks_of_program p)) (sites_of p) (none_mapped _ _ (append_none_left _ _ (append_none_left _ _ (append_none_left _ _ (append_none_left _ _ (append_none_left _ _ accepted.checked))))))
 
 pub each_surrounded : (p : PProgram) → Accepted p → IsInOrder p → AllByRecursion (λ (x : Site). IsSurrounded (blocks_of_program p) x.around) (sites_of p)
 unfolding blocks_of_program

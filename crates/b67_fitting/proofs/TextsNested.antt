@@ -17,10 +17,10 @@ use Rattle.algol_tree.specs.Surroundings.{Surroundings, formals_at, knowing, kno
 use Rattle.algol_paths.specs.Blocks.{BlockIsSeen, IsInner}
 use Rattle.algol_paths.specs.Texts.{InName, InStmt, InStmts}
 use Rattle.b67_templates.specs.Cells.{actuals_in_stmt, actuals_in_stmts}
+use Rattle.b67_list.proofs.Lists.{each_back, each_both, each_front}
 use Rattle.b67_fitting.proofs.Headings.{DeclsSpecified, StmtSpecified, StmtsSpecified}
 use Rattle.b67_templates.specs.Nested.{AreParameters}
 use Rattle.b67_fitting.proofs.ActualsFew.{few_bounds, few_stmt, few_stmts}
-use Rattle.b67_fitting.proofs.Lists.{each_front, each_back, each_both}
 use Rattle.b67_fitting.proofs.Callees.{AreCallees, are_callees}
 use Rattle.b67_fitting.proofs.Surrounded.{IsAround, knows_one, knows_all, enters, enters_procedure, IsGood, AreGood, all_seen, left_seen, in_expr, in_list, in_actuals}
 use Rattle.b67_fitting.proofs.Bounds.{early_inside, early_procedure, in_bounds, in_body}

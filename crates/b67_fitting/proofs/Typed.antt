@@ -26,9 +26,9 @@ use Rattle.algol_tree.specs.Sorts.{is_named_in, class_in}
 use Rattle.algol_tree.specs.Surroundings.{Surroundings, class_of, formals_of_class, declared_as}
 use Rattle.algol_tree.specs.Types.{given_by, taken_by, told_by, element_type, result_type, type_of}
 use Rattle.b67_templates.specs.Events.{names_of, AreSoMany}
+use Rattle.b67_list.proofs.Lists.{append_none_left, append_none_right, each_back, each_front}
 use Rattle.b67_fitting.specs.Wholes.{AreNamed, NumbersWhole, AllWhole}
 use Rattle.b67_fitting.specs.Typing.{IsOf, IsFunction, HasElements, AreEventful, TypedExpr, TypedActuals, TypedLine, TypedActual}
-use Rattle.b67_fitting.proofs.Lists.{each_front, each_back, nil_front, nil_back}
 use Rattle.b67_fitting.proofs.Actuals.{array_actual, event_actual}
 use Rattle.b67_fitting.proofs.Specified.{IsSpecified, as_value, as_name, as_array, as_event, AreSpecified, specified}
 use Rattle.b67_fitting.proofs.Clean.{IsClean, AreClean, KnowsPlain, plain_first, misnamed, eventful_of, array_of, has_others, subscripts_as_many, as_many, none_taken, function_of, IsRead, read_kind, read_as, wrong, wrong_for, wrong_list, kind_wanted, wrong_if}
@@ -95,8 +95,8 @@ module _ (blocks : List Block) (a : Surroundings) (plain : KnowsPlain a) where
       let more = places_if (λ (n : Named). not (is_some (declared_as a n))) (map (λ (e : EventName). e.name) es) in
       let its = if e.task then misnamed is_task (class_of a e.name) e.name.spot else misnamed is_event (class_of a e.name) e.name.spot in
       let others = flat_map (λ (e : EventName). if e.task then misnamed is_task (class_of a e.name) e.name.spot else misnamed is_event (class_of a e.name) e.name.spot) es in (
-        eventful_of e.task (class_of a e.name) e.name.spot (plain_first a plain e.name more k) (nil_front its others t),
-        eventful es (nil_back (if_so (not (is_some (declared_as a e.name))) e.name.spot) more k) (nil_back its others t),
+        eventful_of e.task (class_of a e.name) e.name.spot (plain_first a plain e.name more k) (append_none_left its others t),
+        eventful es (append_none_right (if_so (not (is_some (declared_as a e.name))) e.name.spot) more k) (append_none_right its others t),
       )
 
   -- an actual of a simple parameter
@@ -121,12 +121,12 @@ module _ (blocks : List Block) (a : Surroundings) (plain : KnowsPlain a) where
     typed (tree.truth b spot) w c = record { kind = types.Truth; is = refl; typed = refl }
     typed (tree.variable (tree.subscripted n tree.none)) w c = of_variable n c.0
     typed (tree.variable (tree.subscripted n (tree.more e es))) w c =
-        let r = elements n (tree.more e es) c.0.known (nil_front (misnamed is_array (class_of a n) n.spot) (wrong_list types.Number (tree.more e es) a) c.0.typed) c.0.counted in
+        let r = elements n (tree.more e es) c.0.known (append_none_left (misnamed is_array (class_of a n) n.spot) (wrong_list types.Number (tree.more e es) a) c.0.typed) c.0.counted in
         record {
           kind = r.0;
           is = ap element_type r.1;
           typed =
-              (r.1, typed_line (tree.more e es) w c.1 (nil_back (misnamed is_array (class_of a n) n.spot) (wrong_list types.Number (tree.more e es) a) c.0.typed));
+              (r.1, typed_line (tree.more e es) w c.1 (append_none_right (misnamed is_array (class_of a n) n.spot) (wrong_list types.Number (tree.more e es) a) c.0.typed));
         }
     typed (tree.call (tree.called n tree.none)) w c = absurd w
     typed (tree.call (tree.called n (tree.more e es))) w c =
@@ -154,7 +154,7 @@ module _ (blocks : List Block) (a : Surroundings) (plain : KnowsPlain a) where
           kind = given_by op;
           is = refl;
           typed =
-              (refl, of_kind a (taken_by op) x hx (nil_front (wrong (taken_by op) x a) (wrong (taken_by op) y a) c.0.typed), of_kind a (taken_by op) y hy (nil_back (wrong (taken_by op) x a) (wrong (taken_by op) y a) c.0.typed));
+              (refl, of_kind a (taken_by op) x hx (append_none_left (wrong (taken_by op) x a) (wrong (taken_by op) y a) c.0.typed), of_kind a (taken_by op) y hy (append_none_right (wrong (taken_by op) x a) (wrong (taken_by op) y a) c.0.typed));
         }
     typed (tree.if s x y spot) w c =
         let front = each_front (IsClean blocks) (sites s a ++ sites x a) (sites y a) c.1 in
@@ -165,7 +165,7 @@ module _ (blocks : List Block) (a : Surroundings) (plain : KnowsPlain a) where
           kind = hx.kind;
           is = hx.is;
           typed =
-              (of_kind a types.Truth s hs (nil_front (wrong types.Truth s a) (wrong_for (type_of x a) y a) c.0.typed), hx.typed, of_kind a hx.kind y hy (wrong_if hx.kind (type_of x a) y a hx.is (nil_back (wrong types.Truth s a) (wrong_for (type_of x a) y a) c.0.typed)));
+              (of_kind a types.Truth s hs (append_none_left (wrong types.Truth s a) (wrong_for (type_of x a) y a) c.0.typed), hx.typed, of_kind a hx.kind y hy (wrong_if hx.kind (type_of x a) y a hx.is (append_none_right (wrong types.Truth s a) (wrong_for (type_of x a) y a) c.0.typed)));
         }
 
     pub typed_actuals : (h : Heading) (ns : List Named) → AreSpecified h ns → (es : PExprs) → AllWhole es → length ns ≡ exprs_count es → AreClean blocks (inside_actuals es (map (as_formal h) ns) a) →
@@ -183,4 +183,4 @@ module _ (blocks : List Block) (a : Surroundings) (plain : KnowsPlain a) where
     typed_line tree.none w c h = tt
     typed_line (tree.more e es) w c h =
         let he = typed e w.0 (each_front (IsClean blocks) (sites e a) (inside_list es a) c) in
-        (of_kind a types.Number e he (nil_front (wrong types.Number e a) (wrong_list types.Number es a) h), typed_line es w.1 (each_back (IsClean blocks) (sites e a) (inside_list es a) c) (nil_back (wrong types.Number e a) (wrong_list types.Number es a) h))
+        (of_kind a types.Number e he (append_none_left (wrong types.Number e a) (wrong_list types.Number es a) h), typed_line es w.1 (each_back (IsClean blocks) (sites e a) (inside_list es a) c) (append_none_right (wrong types.Number e a) (wrong_list types.Number es a) h))

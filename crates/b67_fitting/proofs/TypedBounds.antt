@@ -9,10 +9,10 @@ use Rattle.algol_tree.specs.Surroundings.{Surroundings}
 use Rattle.b67_templates.specs.Fragments.{IsWholeNumber}
 use Rattle.algol_paths.specs.Arrays.{lows_of}
 use Rattle.b67_templates.specs.Code.{AreDimensions}
+use Rattle.b67_list.proofs.Lists.{each_back, each_front}
 use Rattle.b67_fitting.specs.Wholes.{HaveDimensions, NumbersWhole}
 use Rattle.b67_fitting.specs.Typing.{TypedPairs}
 use Rattle.b67_fitting.proofs.Clean.{IsClean, AreClean, KnowsPlain}
-use Rattle.b67_fitting.proofs.Lists.{each_front, each_back}
 use Rattle.b67_fitting.proofs.Typed.{of_kind, typed}
 
 -- the lower bounds are whole

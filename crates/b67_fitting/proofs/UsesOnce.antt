@@ -10,25 +10,14 @@ use Rattle.algol_tree.specs.Blocks.{Block, Begin, of_statement, of_procedure}
 use Rattle.algol_tree.specs.Classes.{Formal}
 use Rattle.algol_tree.specs.Plain as tree
 use Rattle.algol_tree.specs.Plain.{name_alone, PExpr, PExprs, PPair, PStmt, PStmts, PDecls}
-use Rattle.algol_tree.specs.Scopes.{Use, used, use_by, left_use, left_uses, if_named, part_uses, uses_at}
+use Rattle.algol_tree.specs.Scopes.{Use, used, use_by, left_uses, if_named, part_uses, uses_at}
 use Rattle.algol_tree.specs.Sites as site
 use Rattle.algol_tree.specs.Sites.{Site, sites, first_formal, other_formals, wants_value, name_part, actual_part, actual_part_by, inside_expr, inside_list, inside_actuals, sites_in_pairs, here_stmt, inside_stmt, sites_in_stmts, sites_in_decls, has_decls}
 use Rattle.algol_tree.specs.Sorts as sort
-use Rattle.algol_tree.specs.Sorts.{Sort, Declared}
+use Rattle.algol_tree.specs.Sorts.{Declared}
 use Rattle.algol_tree.specs.Surroundings.{Surroundings, declared_as, formals_at, knowing, knowing_all, inside, inside_procedure}
+use Rattle.algol_tree.proofs.Trees.{left_place}
 use Rattle.b67_fitting.proofs.Numbering.{here, times, times_both, places, places_both, use_place}
-
--- what a name is used as stands at the name
-left_place : (u : Use) (s : Sort) → (left_use u s).spot ≡ u.spot
-left_place u (sort.procedure block) = refl
-left_place u sort.variable = refl
-left_place u sort.by_name = refl
-left_place u sort.array = refl
-left_place u (sort.formal_array lows) = refl
-left_place u sort.event = refl
-left_place u sort.formal_event = refl
-left_place u sort.label = refl
-left_place u sort.file = refl
 
 -- the uses of an actual are those of its expression
 name_uses : (n : Named) (value : Bool) (a : Surroundings) → part_uses (name_part n value) a ≡ used a n ++ []

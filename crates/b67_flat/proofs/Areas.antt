@@ -4,10 +4,10 @@ use Rattle.std.specs.Prelude.{nat_lt, slice_get, option_map, unwrap_or}
 use Rattle.std.proofs.lemmas.List.{drop-set-lt, drop-set-add, take-set-le}
 use Rattle.b67_word.specs.Word.{Word}
 use Rattle.b67_store.specs.Store.{at_number, opened_at}
+use Rattle.b67_list.proofs.Numbers.{ltb_false, ltb_true}
 use Rattle.b67_flat.specs.declared.Span.{Span}
 use Rattle.b67_flat.specs.Spans.{end_of_span, Ascend, end_after, IsOneOf}
 use Rattle.b67_flat.specs.Flat.{words_at}
-use Rattle.b67_flat.proofs.Walks.{is_below, is_not_below}
 
 pub some_same : {X : Type 0} (d x y : X) → Some x ≡ Some y → x ≡ y
 some_same {X = X} d x y e = ap (λ (o : Option X). unwrap_or o d) e
@@ -56,12 +56,12 @@ set_inside words place count i w p = ap (take count) (drop-set-add place words i
 -- in another one
 apart_case : (words : List Word) (spans : List Span) (s t : Span) (j k i count : ℕ) (w : Word) (b c : Bool) → nat_lt j k ≡ b → nat_lt k j ≡ c → Ascend 0 spans → j ≢ k → slice_get spans j ≡ Some s → slice_get spans k ≡ Some t → i < s.length → count ≤ t.length → words_at (set words (s.place + i) w) t.place count ≡ words_at words t.place count
 apart_case words spans s t j k i count w true c x y a n e f p q =
-    set_before words t.place count (s.place + i) w (omega (arith, p, ordered 0 j k spans s t a (is_below j k x) e f))
+    set_before words t.place count (s.place + i) w (omega (arith, p, ordered 0 j k spans s t a (ltb_true j k x) e f))
 apart_case words spans s t j k i count w false true x y a n e f p q =
-    let o : end_of_span t ≤ s.place = ordered 0 k j spans t s a (is_below k j y) f e in
+    let o : end_of_span t ≤ s.place = ordered 0 k j spans t s a (ltb_true k j y) f e in
     let m : s.place + i ≡ t.place + (s.place + i - t.place) = omega (arith, o) in
     ap (λ z. take count (drop t.place (set words z w))) m ∙ set_after words t.place count (s.place + i - t.place) w (omega (arith, o, q))
-apart_case words spans s t j k i count w false false x y a n e f p q = absurd (n (omega (arith, is_not_below j k x, is_not_below k j y)))
+apart_case words spans s t j k i count w false false x y a n e f p q = absurd (n (omega (arith, ltb_false j k x, ltb_false k j y)))
 
 pub set_apart : (words : List Word) (spans : List Span) (s t : Span) (i count : ℕ) (w : Word) → Ascend 0 spans → IsOneOf s spans → IsOneOf t spans → s ≢ t → i < s.length → count ≤ t.length → words_at (set words (s.place + i) w) t.place count ≡ words_at words t.place count
 set_apart words spans s t i count w a (j, e) (k, f) n p q =

@@ -19,13 +19,6 @@ chunk_before j h = ⊎_elim (λ (p : 0 < suc j % 64). omega (arith, p, div-add-m
 chunk_after : (k : ℕ) → k % 64 ≢ 63 → suc k / 64 ≡ k / 64
 chunk_after k h = ⊎_elim (λ (p : k % 64 < 63). omega (arith, p, div-add-mod' k 64, div-add-mod' (suc k) 64)) (λ (q : 63 ≤ k % 64). absurd (h (omega (arith, q, div-add-mod' k 64)))) (cases_lt (k % 64) 63)
 
--- numbers that stand at the same place of their chunks are a chunk apart
-apart : (next k : ℕ) → next ≤ k → k ≢ next → k % 64 ≡ next % 64 → next + 64 ≤ k
-apart next k p h e = ⊎_elim (λ (q : next < k). omega (arith, q, e, div-add-mod' k 64, div-add-mod' next 64)) (λ (q : k ≤ next). absurd (h (omega (arith, p, q)))) (cases_lt next k)
-
-next_alike : (next : ℕ) → (next + 64) % 64 ≡ next % 64
-next_alike next = omega (arith, div-add-mod' (next + 64) 64, div-add-mod' next 64)
-
 begins_chunk : (n : ℕ) → (n + 1) * 64 % 64 ≡ 0
 begins_chunk n = omega (arith, div-add-mod' ((n + 1) * 64) 64)
 
@@ -86,11 +79,6 @@ one_raised spans old new at from k kept more raised h =
     (λ (e : k ≡ at). omega (arith, raised, ap (λ (n : ℕ). gap_before 0 spans n) e, ap (λ (n : ℕ). get_or new (n / 64) 0) e))
     (λ (d : k ≢ at). omega (arith, kept k d h, more (k / 64)))
     (cases_eq k at)
-
--- by the gap at the next place
-pub next_raised : (spans : List Span) (old new : List ℕ) (next k : ℕ) → ((j : ℕ) → (next ≤ j → j % 64 ≢ next % 64) → gap_before 0 spans j ≤ get_or old (j / 64) 0) → ((j : ℕ) → get_or old j 0 ≤ get_or new j 0) → gap_before 0 spans next ≤ get_or new (next / 64) 0 → (next + 64 ≤ k → k % 64 ≢ (next + 64) % 64) → gap_before 0 spans k ≤ get_or new (k / 64) 0
-next_raised spans old new next k kept more raised h =
-    one_raised spans old new next (next + 64) k (λ j d g. kept j (λ p e. g (apart next j p d e) (e ∙ sym (next_alike next)))) more raised h
 
 -- and at all
 pub all_raised : (spans : List Span) (widest : List ℕ) (next : ℕ) → ((k : ℕ) → (next ≤ k → k % 64 ≢ next % 64) → gap_before 0 spans k ≤ get_or widest (k / 64) 0) → length spans ≤ next → AreWidest spans widest

@@ -2,15 +2,9 @@
 use Rattle.std.proofs.Common.{◌≡◌, ℕ, zero, suc, ◌+◌, ◌-◌, ◌<◌, ◌≤◌, Bool, true, false, if◌then◌else◌, List, [], ◌∷◌, length, get_or, take, refl, ap, arith, rules}
 use Rattle.std.specs.Prelude.{nat_lt}
 use Rattle.std.specs.List.{insert, remove}
-use Rattle.std.proofs.lemmas.Bool.Decides.{nat_tests}
+use Rattle.b67_list.proofs.Numbers.{ltb_less, ltb_not_less}
 use Rattle.b67_flat.specs.declared.Span.{Span}
 use Rattle.b67_flat.specs.Spans.{end_of_span, Ascend, end_after, gap_before, first_fit, spans_below}
-
-pub lt_true : (a b : ℕ) → a < b → nat_lt a b ≡ true
-lt_true a b h = grind (arith, nat_tests)
-
-pub lt_false : (a b : ℕ) → b ≤ a → nat_lt a b ≡ false
-lt_false a b h = grind (arith, nat_tests)
 
 -- ---- where spans end
 
@@ -74,10 +68,10 @@ fit_is from count [] zero a p narrow wide = refl
 fit_is from count [] (suc i) a p narrow wide = absurd (omega arith)
 fit_is from count (s ∷ ss) zero a p narrow wide =
     let w : count ≤ s.place - from = wide (omega arith) in
-    rw (lt_false s.place (from + count) (omega (arith, w, a.0))) refl
+    rw (ltb_not_less s.place (from + count) (omega (arith, w, a.0))) refl
 fit_is from count (s ∷ ss) (suc i) a p narrow wide =
     let n : s.place - from < count = narrow 0 (omega arith) in
-    rw (lt_true s.place (from + count) (omega (arith, n, a.0))) (ap suc (fit_is (end_of_span s) count ss i a.2 (omega arith) (λ k q. narrow (suc k) (omega arith)) (λ q. wide (omega arith))))
+    rw (ltb_less s.place (from + count) (omega (arith, n, a.0))) (ap suc (fit_is (end_of_span s) count ss i a.2 (omega arith) (λ k q. narrow (suc k) (omega arith)) (λ q. wide (omega arith))))
 
 pub fit_within : (from count : ℕ) (spans : List Span) → first_fit from count spans ≤ length spans
 fit_within from count [] = omega arith
@@ -91,8 +85,8 @@ fit_within from count (s ∷ ss) = fit_case (nat_lt s.place (from + count)) (fir
 pub below_is : (place : ℕ) (spans : List Span) (i : ℕ) → i ≤ length spans → ((k : ℕ) (d : Span) → k < i → (get_or spans k d).place < place) → ((d : Span) → i < length spans → place ≤ (get_or spans i d).place) → spans_below place spans ≡ i
 below_is place [] zero p low high = refl
 below_is place [] (suc i) p low high = absurd (omega arith)
-below_is place (s ∷ ss) zero p low high = rw (lt_false s.place place (high s (omega arith))) refl
-below_is place (s ∷ ss) (suc i) p low high = rw (lt_true s.place place (low 0 s (omega arith))) (ap suc (below_is place ss i (omega arith) (λ k d q. low (suc k) d (omega arith)) (λ d q. high d (omega arith))))
+below_is place (s ∷ ss) zero p low high = rw (ltb_not_less s.place place (high s (omega arith))) refl
+below_is place (s ∷ ss) (suc i) p low high = rw (ltb_less s.place place (low 0 s (omega arith))) (ap suc (below_is place ss i (omega arith) (λ k d q. low (suc k) d (omega arith)) (λ d q. high d (omega arith))))
 
 -- places ascend
 pub places_ascend : (from j k : ℕ) (spans : List Span) (d : Span) → Ascend from spans → j ≤ k → k < length spans → (get_or spans j d).place ≤ (get_or spans k d).place

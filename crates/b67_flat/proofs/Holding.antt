@@ -5,11 +5,13 @@ use Rattle.std.specs.List.{insert, remove}
 use Rattle.std.proofs.lemmas.Bool.{cases_eq}
 use Rattle.b67_store.proofs.StoreLaws.{opened_here, opened_others, changed_others, closed_here}
 use Rattle.b67_store.specs.Store.{at_number, opened_at}
+use Rattle.b67_list.proofs.Lists.{get_within}
+use Rattle.b67_list.proofs.Numbers.{ltb_less, ltb_not_less}
 use Rattle.b67_flat.specs.declared.Span.{Span}
 use Rattle.b67_flat.specs.declared.row_table.HeldRow.{HeldRow}
 use Rattle.b67_flat.specs.Spans.{end_of_span, Ascend, first_fit, span_for, span_opened, spans_below, closed, IsOneOf}
 use Rattle.b67_flat.specs.Flat.{span_of_row, IsHeld, AreSpans}
-use Rattle.b67_flat.proofs.Fits.{lt_true, lt_false, fit_within}
+use Rattle.b67_flat.proofs.Fits.{fit_within}
 use Rattle.b67_flat.proofs.Areas.{begins_past, some_same}
 
 pub none_some : {X A : Type 0} (x : X) → None ≡ Some x → A
@@ -52,20 +54,15 @@ was_in (suc i) (suc k) (s ∷ ss) t e = let r = was_in i k ss t e in (suc r.0, r
 -- as many begin below it as stand before it
 pub below_it : (from j : ℕ) (spans : List Span) (t : Span) → Ascend from spans → slice_get spans j ≡ Some t → spans_below t.place spans ≡ j
 below_it from j [] t a e = none_some t e
-below_it from zero (s ∷ ss) t a e = rw (lt_false s.place t.place (omega (arith, ap (λ (z : Span). z.place) (some_same s s t e)))) refl
-below_it from (suc j) (s ∷ ss) t a e = rw (lt_true s.place t.place (omega (arith, a.1, begins_past (end_of_span s) j ss t a.2 e))) (ap suc (below_it (end_of_span s) j ss t a.2 e))
+below_it from zero (s ∷ ss) t a e = rw (ltb_not_less s.place t.place (omega (arith, ap (λ (z : Span). z.place) (some_same s s t e)))) refl
+below_it from (suc j) (s ∷ ss) t a e = rw (ltb_less s.place t.place (omega (arith, a.1, begins_past (end_of_span s) j ss t a.2 e))) (ap suc (below_it (end_of_span s) j ss t a.2 e))
 
 one_place : (spans : List Span) (t : Span) (j k : ℕ) → Ascend 0 spans → slice_get spans j ≡ Some t → slice_get spans k ≡ Some t → j ≡ k
 one_place spans t j k a e f = sym (below_it 0 j spans t a e) ∙ below_it 0 k spans t a f
 
-there_is : {X : Type 0} (xs : List X) (j : ℕ) (x : X) → slice_get xs j ≡ Some x → j < length xs
-there_is [] j x e = none_some x e
-there_is (y ∷ ys) zero x e = omega arith
-there_is (y ∷ ys) (suc j) x e = omega (arith, there_is ys j x e)
-
 -- the span that is closed is one of them
 pub below_within : (spans : List Span) (t : Span) → Ascend 0 spans → IsOneOf t spans → spans_below t.place spans < length spans
-below_within spans t a (j, e) = omega (arith, below_it 0 j spans t a e, there_is spans j t e)
+below_within spans t a (j, e) = omega (arith, below_it 0 j spans t a e, get_within spans j t e)
 
 -- the new span is one of them
 pub opened_in : (count row : ℕ) (spans : List Span) → IsOneOf (span_for count row spans) (span_opened count row spans)

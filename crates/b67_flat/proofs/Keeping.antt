@@ -1,10 +1,11 @@
 -- Which words stay where a memory is lengthened, or words of one span are put in place of others.
-use Rattle.std.proofs.Common.{◌≡◌, ◌≢◌, ℕ, zero, suc, ◌+◌, ◌-◌, ◌<◌, ◌≤◌, Bool, List, [], ◌∷◌, ◌++◌, length, take, drop, replicate, pos, ⊎_elim, refl, ap, sym, ◌∙◌, arith, append_assoc, length-append}
+use Rattle.std.proofs.Common.{◌≡◌, ◌≢◌, ℕ, zero, suc, ◌+◌, ◌-◌, ◌<◌, ◌≤◌, Bool, List, [], ◌∷◌, ◌++◌, length, take, drop, replicate, pos, ⊎_elim, ap, sym, ◌∙◌, arith, append_assoc, length-append}
 use Rattle.std.specs.Prelude.{slice_get, Option, Some}
 use Rattle.std.proofs.lemmas.List.{take-append-drop, take-append-le, drop-append-le, drop-drop, length-take-le, length-drop}
 use Rattle.std.proofs.lemmas.Bool.{cases_lt}
 use Rattle.b67_word.specs.Word.{Word, operand}
 use Rattle.b67_store.specs.Store.{Row}
+use Rattle.b67_list.proofs.Lists.{whole_list}
 use Rattle.b67_flat.specs.declared.Span.{Span}
 use Rattle.b67_flat.specs.declared.row_table.HeldRow.{HeldRow}
 use Rattle.b67_flat.specs.Spans.{Ascend, end_after, IsOneOf}
@@ -38,10 +39,6 @@ pasted_after words others place p h q =
     ∙ past_end (take place words ++ others) (drop (place + length others) words) p (omega (arith, front))
     ∙ drop-drop (p - length (take place words ++ others)) (place + length others) words
     ∙ ap (λ (n : ℕ). drop n words) (omega (arith, front))
-
-whole_list : {X : Type 0} (xs : List X) → take (length xs) xs ≡ xs
-whole_list [] = refl
-whole_list (x ∷ xs) = ap (λ ys. x ∷ ys) (whole_list xs)
 
 pub pasted_inside : (words others : List Word) (place : ℕ) → place ≤ length words → words_at (pasted words place others) place (length others) ≡ others
 pasted_inside words others place q =

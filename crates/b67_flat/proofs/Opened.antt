@@ -1,6 +1,6 @@
 -- What is seen of a memory in which one more row is open, or one less.
-use Rattle.std.proofs.Common.{◌≡◌, ◌≢◌, ℕ, ◌+◌, ◌<◌, ◌≤◌, Bool, false, List, [], ◌++◌, length, set, take, drop, replicate, pos, Option, Some, None, subst, refl, ap, sym, ◌∙◌, arith, rules, length-append}
-use Rattle.std.specs.Prelude.{◌&&◌, nat_lt, option_map, is_some}
+use Rattle.std.proofs.Common.{◌≡◌, ◌≢◌, ℕ, ◌+◌, ◌<◌, ◌≤◌, Bool, List, [], ◌++◌, length, set, take, drop, replicate, pos, Option, None, subst, ap, sym, ◌∙◌, arith, length-append}
+use Rattle.std.specs.Prelude.{◌&&◌, nat_lt, option_map}
 use Rattle.std.proofs.lemmas.List.{map-set, length-replicate, length-take-le, length-drop}
 use Rattle.b67_word.specs.Word.{Word, operand}
 use Rattle.b67_store.specs.Store.{at_number, opened_at, least_free, Rows, zero_row, exceeds, count_limit}
@@ -126,7 +126,3 @@ least_seen words rows n e = e ∙ sym (least_mapped (row_in words) rows)
 
 pub least_unheld : (rows : List (Option HeldRow)) (n : ℕ) → n ≡ least_free rows → at_number rows n ≡ None
 least_unheld rows n e = ap (λ (k : ℕ). at_number rows k) e ∙ free_here rows
-
-pub is_none : {X : Type 0} (o : Option X) → is_some o ≡ false → o ≡ None
-is_none None e = refl
-is_none (Some x) e = absurd (search rules)

@@ -3,14 +3,14 @@ use Rattle.std.proofs.Common.{◌≡◌, ℕ, zero, suc, ◌+◌, ◌-◌, ◌<�
 use Rattle.std.specs.Prelude.{nat_lt}
 use Rattle.std.specs.List.{insert, remove}
 use Rattle.std.proofs.lemmas.List.{append_assoc, length-append, length-replicate, length-take-le, drop_more, set_at}
+use Rattle.b67_list.proofs.Numbers.{ltb_false, ltb_true}
 use Rattle.b67_flat.specs.declared.Span.{Span}
 use Rattle.b67_flat.specs.Spans.{end_of_span, Ascend, end_after, gap_before, first_fit, place_for, span_for, span_opened, spans_below, closed}
 use Rattle.b67_flat.proofs.Fits.{fit_within, ascend_inserted, end_inserted, end_within}
-use Rattle.b67_flat.proofs.Walks.{is_below, is_not_below}
 
 wide_case : (from count : ℕ) (s : Span) (ss : List Span) (n : ℕ) (b : Bool) → nat_lt s.place (from + count) ≡ b → (n < length ss → count ≤ gap_before (end_of_span s) ss n) → (if b then suc n else 0) < suc (length ss) → count ≤ gap_before from (s ∷ ss) (if b then suc n else 0)
 wide_case from count s ss n true e more q = more (omega (arith, q))
-wide_case from count s ss n false e more q = omega (arith, is_not_below s.place (from + count) e)
+wide_case from count s ss n false e more q = omega (arith, ltb_false s.place (from + count) e)
 
 -- the gap at which it fits is wide enough
 pub fit_wide : (from count : ℕ) (spans : List Span) → Ascend from spans → first_fit from count spans < length spans → count ≤ gap_before from spans (first_fit from count spans)
@@ -30,7 +30,7 @@ pub place_within : (count : ℕ) (spans : List Span) → Ascend 0 spans → plac
 place_within count spans a = end_within 0 (first_fit 0 count spans) spans a
 
 self_case : (new : Span) (n : ℕ) (b : Bool) → nat_lt new.place new.place ≡ b → (if b then suc n else 0) ≡ 0
-self_case new n true e = absurd (omega (arith, is_below new.place new.place e))
+self_case new n true e = absurd (omega (arith, ltb_true new.place new.place e))
 self_case new n false e = refl
 
 pub ends_past : (from k : ℕ) (spans : List Span) → Ascend from spans → from ≤ end_after from (take k spans)
@@ -40,7 +40,7 @@ ends_past from (suc k) (s ∷ ss) a = omega (arith, a.0, ends_past (end_of_span 
 
 step_case : (s new : Span) (n i : ℕ) (b : Bool) → nat_lt s.place new.place ≡ b → s.place < new.place → n ≡ i → (if b then suc n else 0) ≡ suc i
 step_case s new n i true f q e = ap suc e
-step_case s new n i false f q e = absurd (omega (arith, q, is_not_below s.place new.place f))
+step_case s new n i false f q e = absurd (omega (arith, q, ltb_false s.place new.place f))
 
 -- what is closed there again is that one
 pub below_opened : (from i : ℕ) (spans : List Span) (new : Span) → Ascend from spans → i ≤ length spans → new.place ≡ end_after from (take i spans) → spans_below new.place (insert spans i new) ≡ i

@@ -1,9 +1,10 @@
 -- Lists by number that are seen alike, and the spans of what is left where the last of a list is forgotten.
-use Rattle.std.proofs.Common.{◌≡◌, ◌≢◌, ⊎_elim, subst, Bool, true, false, if◌then◌else◌, ℕ, zero, suc, ◌+◌, ◌<◌, ◌≤◌, List, [], ◌∷◌, ◌++◌, length, set, Option, Some, None, refl, sym, ap, ◌∙◌, arith}
+use Rattle.std.proofs.Common.{◌≡◌, ◌≢◌, ⊎_elim, subst, Bool, true, false, if◌then◌else◌, ℕ, suc, ◌+◌, ◌<◌, ◌≤◌, List, [], ◌∷◌, ◌++◌, length, set, Option, Some, None, refl, sym, ap, ◌∙◌, arith}
 use Rattle.std.specs.Prelude.{is_some, option_map}
 use Rattle.std.proofs.lemmas.Bool.{cases_eq, cases_lt}
 use Rattle.b67_store.proofs.StoreLaws.{closed_here, changed_others}
 use Rattle.b67_store.specs.Store.{at_number, closed_at}
+use Rattle.b67_list.proofs.Answered.{none_there}
 use Rattle.b67_flat.specs.declared.Span.{Span}
 use Rattle.b67_flat.specs.declared.row_table.HeldRow.{HeldRow}
 use Rattle.b67_flat.specs.Flat.{IsHeld, AreSpans}
@@ -17,22 +18,12 @@ all_numbers {X = X} (x ∷ xs) (y ∷ ys) e h =
     let same : x ≡ y = h 0 (omega arith) in
     ap (λ (z : Option X). z ∷ xs) same ∙ ap (λ (zs : List (Option X)). y ∷ zs) (all_numbers xs ys (omega (arith, e)) (λ k p. h (suc k) (omega (arith, p))))
 
-pub beyond : {X : Type 0} (xs : List (Option X)) (k : ℕ) → length xs ≤ k → at_number xs k ≡ None
-beyond [] k p = refl
-beyond (x ∷ xs) zero p = absurd (omega (arith, p))
-beyond (x ∷ xs) (suc k) p = beyond xs k (omega (arith, p))
-
 -- what holds at each number below another one, and at that one
 pub one_more : (P : ℕ → Type 0) (n : ℕ) → ((k : ℕ) → k < n → P k) → P n → (k : ℕ) → k < n + 1 → P k
 one_more P n h here k p = ⊎_elim
     (λ (q : k < n). h k q)
     (λ (q : n ≤ k). let e : n ≡ k = omega (arith, p, q) in subst P e here)
     (cases_lt k n)
-
--- all from a number on are closed
-none_of : {X : Type 0} (o : Option X) → is_some o ≡ false → o ≡ None
-none_of None e = refl
-none_of (Some x) e = cc
 
 pub closed_from : {X : Type 0} (old new : List (Option X)) (ok : Bool) (n : ℕ) → ok ≡ is_some (at_number old n) → new ≡ (if ok then closed_at old n else old)
     → ((k : ℕ) → n + 1 ≤ k → at_number old k ≡ None) → (k : ℕ) → n ≤ k → at_number new k ≡ None
@@ -45,7 +36,7 @@ closed_from {X = X} old new true n found is h k p =
 closed_from {X = X} old new false n found is h k p =
     ap (λ (xs : List (Option X)). at_number xs k) is
     ∙ ⊎_elim
-    (λ (e : k ≡ n). ap (λ (i : ℕ). at_number old i) e ∙ none_of (at_number old n) (sym found))
+    (λ (e : k ≡ n). ap (λ (i : ℕ). at_number old i) e ∙ none_there (at_number old n) (sym found))
     (λ (d : k ≢ n). h k (omega (arith, p, d)))
     (cases_eq k n)
 

@@ -1,21 +1,16 @@
 -- What the calls of a flat core do to the lists that are seen.
-use Rattle.std.proofs.Common.{◌≡◌, ◌≢◌, ℕ, zero, suc, ◌+◌, ◌-◌, ◌<◌, ◌≤◌, Bool, true, false, List, [], ◌∷◌, ◌++◌, length, set, take, drop, replicate, pos, if◌then◌else◌, Option, Some, None, refl, ap, sym, ◌∙◌, arith, rules}
+use Rattle.std.proofs.Common.{◌≡◌, ◌≢◌, ℕ, zero, suc, ◌+◌, ◌-◌, ◌<◌, ◌≤◌, Bool, true, false, List, [], ◌∷◌, ◌++◌, length, set, take, drop, replicate, pos, if◌then◌else◌, Option, Some, None, refl, ap, sym, ◌∙◌, arith}
 use Rattle.std.specs.Prelude.{slice_get, option_map, is_some}
 use Rattle.std.proofs.lemmas.List.{length-replicate, length-set, length-take-le, length-drop}
 use Rattle.std.proofs.lemmas.List.Sums.{sum_by-cons}
 use Rattle.b67_word.specs.Word.{Word, operand}
 use Rattle.b67_store.specs.Store.{at_number, Row, counted_words, live_words, row_words, row_words_or, row_with, with_row_word}
+use Rattle.b67_store.proofs.Cited.{put_there}
 use Rattle.b67_flat.specs.declared.Span.{Span}
 use Rattle.b67_flat.specs.declared.row_table.HeldRow.{HeldRow}
 use Rattle.b67_flat.specs.Spans.{Ascend}
 use Rattle.b67_flat.specs.Flat.{Memory, IsMemory, words_at, row_in, rows_in, bare, bare_rows, span_of_row, AreSpans}
 use Rattle.b67_flat.proofs.Areas.{set_apart, set_inside, at_mapped, mapped_same, mapped_set, ends_within}
-
-put_there : {X : Type 0} (table : List (Option X)) (n : ℕ) (x : X) → at_number table n ≡ Some x → set table n (Some x) ≡ table
-put_there [] n x e = refl
-put_there (None ∷ xs) zero x e = absurd (search rules)
-put_there (Some y ∷ xs) zero x e = ap (λ o. o ∷ xs) (sym e)
-put_there (o ∷ xs) (suc n) x e = ap (λ ys. o ∷ ys) (put_there xs n x e)
 
 got_take : {X : Type 0} (xs : List X) (count i : ℕ) → i < count → slice_get (take count xs) i ≡ slice_get xs i
 got_take xs zero i p = absurd (omega arith)
@@ -31,11 +26,6 @@ got_drop (x ∷ xs) (suc place) i (suc k) e = got_drop xs place i k (omega (arit
 
 got_at : (words : List Word) (place count i : ℕ) → i < count → slice_get (words_at words place count) i ≡ slice_get words (place + i)
 got_at words place count i p = got_take (drop place words) count i p ∙ got_drop words place i (place + i) refl
-
-got_past : {X : Type 0} (xs : List X) (i : ℕ) → length xs ≤ i → slice_get xs i ≡ None
-got_past [] i p = refl
-got_past (x ∷ xs) zero p = absurd (omega (arith, p))
-got_past (x ∷ xs) (suc i) p = got_past xs i (omega (arith, p))
 
 -- ---- the words of a row
 
@@ -89,11 +79,6 @@ row_written words spans rows n i held w a are h p =
 pub row_found : (memory : Memory) (rows : List (Option HeldRow)) (n i : ℕ) (held : HeldRow) → IsMemory memory → AreSpans memory.spans rows → at_number rows n ≡ Some held → i < held.length → true ≡ is_some (slice_get (row_words (rows_in memory.words rows) n) i)
 row_found memory rows n i held m are h p =
     got_some (row_words (rows_in memory.words rows) n) i (omega (arith, p, ap length (row_words_seen memory.words rows n held h), row_size memory rows n held m are h))
-
--- and none past them
-pub row_past : (memory : Memory) (rows : List (Option HeldRow)) (n i : ℕ) (held : HeldRow) → IsMemory memory → AreSpans memory.spans rows → at_number rows n ≡ Some held → held.length ≤ i → slice_get (row_words (rows_in memory.words rows) n) i ≡ None
-row_past memory rows n i held m are h p =
-    got_past (row_words (rows_in memory.words rows) n) i (omega (arith, p, ap length (row_words_seen memory.words rows n held h), row_size memory rows n held m are h))
 
 -- ---- how many words of rows count
 

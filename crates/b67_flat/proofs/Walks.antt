@@ -1,18 +1,12 @@
 -- What the walks over the spans find.
 use Rattle.std.proofs.Common.{◌≡◌, ◌≢◌, ℕ, zero, suc, ◌+◌, ◌-◌, ◌/◌, ◌<◌, ◌≤◌, Bool, true, false, List, length, get_or, take, refl, ap, sym, ◌∙◌, arith}
 use Rattle.std.specs.Prelude.{nat_lt}
-use Rattle.std.proofs.lemmas.Bool.Decides.{nat_tests}
 use Rattle.std.proofs.lemmas.List.{get_or_default}
 use Rattle.std.proofs.lemmas.Nat.{div_below}
+use Rattle.b67_list.proofs.Numbers.{ltb_false, ltb_true}
 use Rattle.b67_flat.specs.declared.Span.{Span}
 use Rattle.b67_flat.specs.Spans.{end_of_span, Ascend, end_after, gap_before}
 use Rattle.b67_flat.proofs.Fits.{end_next, gap_is, gap_past, begins_after, places_ascend}
-
-pub is_below : (a b : ℕ) → nat_lt a b ≡ true → a < b
-is_below a b h = grind (arith, nat_tests)
-
-pub is_not_below : (a b : ℕ) → nat_lt a b ≡ false → b ≤ a
-is_not_below a b h = grind (arith, nat_tests)
 
 -- where the spans before this one end, by the one before it
 pub end_by : (spans : List Span) (at : ℕ) (s : Span) → at ≢ 0 → at ≤ length spans → s ≡ get_or spans (at - 1) s → end_after 0 (take at spans) ≡ s.place + s.length
@@ -29,12 +23,12 @@ begins_by spans at s a p e = omega (arith, begins_after 0 at spans s a p, ap (λ
 
 -- the widest of a chunk, once all its spans were looked at
 chunk_case : (spans : List Span) (first at most widest k : ℕ) (b : Bool) → nat_lt k at ≡ b → ((j : ℕ) → first ≤ j → j < at → gap_before 0 spans j ≤ widest) → (at < length spans → first + most ≤ at) → first ≤ k → k < first + most → gap_before 0 spans k ≤ widest
-chunk_case spans first at most widest k true e seen all p q = seen k p (is_below k at e)
+chunk_case spans first at most widest k true e seen all p q = seen k p (ltb_true k at e)
 chunk_case spans first at most widest k false e seen all p q = end_case (nat_lt at (length spans)) refl
   where
     end_case : (b : Bool) → nat_lt at (length spans) ≡ b → gap_before 0 spans k ≤ widest
-    end_case true f = absurd (omega (arith, all (is_below at (length spans) f), is_not_below k at e))
-    end_case false f = omega (arith, gap_past 0 k spans (omega (arith, is_not_below at (length spans) f, is_not_below k at e)))
+    end_case true f = absurd (omega (arith, all (ltb_true at (length spans) f), ltb_false k at e))
+    end_case false f = omega (arith, gap_past 0 k spans (omega (arith, ltb_false at (length spans) f, ltb_false k at e)))
 
 pub chunk_done : (spans : List Span) (first at most widest k : ℕ) → ((j : ℕ) → first ≤ j → j < at → gap_before 0 spans j ≤ widest) → (at < length spans → first + most ≤ at) → first ≤ k → k < first + most → gap_before 0 spans k ≤ widest
 chunk_done spans first at most widest k seen all p q = chunk_case spans first at most widest k (nat_lt k at) refl seen all p q

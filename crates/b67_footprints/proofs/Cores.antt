@@ -25,9 +25,6 @@ turned_same xs ys e = sym (reverse-reverse xs) ∙ ap reverse e ∙ reverse-reve
 
 module _ (img new : Image) (q : ℕ) (core : Core) (has : HasCore img q core) (stands : ProcessStands new q core.registers)
     (same : private_of new core.registers ≡ private_of img core.registers) where
-  abbrev lower : List Word
-  lower = take (floor core.registers) stands.words
-
   above : drop (floor core.registers) stands.words ≡ reverse core.words
   above =
       ap (λ (o : Option (List Word)). drop (floor core.registers) (words_or o)) (sym stands.opened)

@@ -2,10 +2,10 @@
 use Rattle.std.proofs.Common.{◌≡◌, ◌≢◌, ◌⊎◌, inl, inr, refl, sym, ap, subst, ◌∙◌, ℕ, zero, suc, ◌+◌, ◌≤◌, Bool, List, [], ◌∷◌, ◌++◌, length, set, Option, Some, None, Result, Ok, cond, arith, length-append, true, false}
 use Rattle.std.specs.Prelude.{slice_get, nat_le, if◌then◌else◌, ◌&&◌, ◌||◌, ◌==◌, map}
 use Rattle.std.specs.Option.{option_map}
-use Rattle.std.proofs.lemmas.Bool.Decides.{nat_tests}
 use Rattle.std.proofs.Math.Decide.{ℕ_discrete}
-use Rattle.std.proofs.lemmas.List.{length-set}
 use Rattle.b67_list.specs.Numbered.{numbered, set_numbered}
+use Rattle.b67_list.proofs.Lists.{get_set_other}
+use Rattle.b67_list.proofs.Numbers.{same_number}
 use Rattle.b67_deeds.specs.declared.EventAct.TheVariants as act
 use Rattle.b67_deeds.specs.declared.EventTest.TheVariants as test
 use Rattle.b67_deeds.specs.Deeds.{EventDeed, acts, tests, Next, goes, waits, procures, deed}
@@ -13,7 +13,7 @@ use Rattle.b67_deeds.specs.Events.{EventState, joined, left_by}
 use Rattle.b67_deeds.specs.Listed.{IsListed}
 use Rattle.b67_events.specs.Events.{Event, event_at, state_at, same_place, is_from, event_is_among, joined_all, withdrawn, changed_by, with_state, deed_at}
 use Rattle.b67_events.proofs.EventLaws.{one_event}
-use Rattle.b67_events.proofs.Listed.{same_place-true}
+use Rattle.b67_events.proofs.Listed.{same_place_true}
 use Rattle.b67_word.specs.declared.Place.{Place}
 use Rattle.b67_word.specs.Word.{Word}
 use Rattle.b67_control.specs.declared.Registers.{Registers}
@@ -39,9 +39,11 @@ use Rattle.b67_table.specs.Table.{raw, operator_at, by_row, by_operator, by_regi
 use Rattle.b67_table.specs.Sound.{Lives}
 use Rattle.b67_table.proofs.Keeping.{Gives}
 use Rattle.b67_table.proofs.Privacy.{part_keeps, put_by}
-use Rattle.b67_table.proofs.Saving.{get_set_other}
 use Rattle.b67_table.proofs.Withdrawing.{mapped_at}
-use Rattle.b67_table.proofs.Stacks.{set_other, get_numbered_other, get_numbered_append}
+use Rattle.b67_table.proofs.Stacks.{get_numbered_other, get_numbered_append}
+use Rattle.b67_table.proofs.EventKept.{length_states}
+use Rattle.b67_table.proofs.OwnValid.{length_numbered}
+use Rattle.b67_table.proofs.Several.{event_place}
 use Rattle.b67_footprints.specs.Reaching.{ReachesRow, ReachesEvent, free}
 use Rattle.b67_footprints.specs.Keeping.{ReachesAll, MayWrite, NamesOperand, ChangeKeeps, ProgramKeeps, RowKeeps}
 use Rattle.b67_footprints.specs.Laws.{all_left_by, LeavesEvent, LeavesTheRest, OperatorsLeaveTheRest}
@@ -62,7 +64,7 @@ saved_beside : (st : Stacks) (x y : Place) (w : Word) → x ≢ y → word_at (w
 saved_beside st x y w h = by_stack (ℕ_discrete x.stack y.stack)
   where
     by_stack : Dec (x.stack ≡ y.stack) → word_at (with_word st y w) x ≡ word_at st x
-    by_stack (no other) = ap (λ (o : Option (List Word)). slice_get (words_or o) x.at) (set_other st y.stack x.stack _ other)
+    by_stack (no other) = ap (λ (o : Option (List Word)). slice_get (words_or o) x.at) (changed_others st y.stack x.stack _ other)
     by_stack (yes e) =
         ap (λ (n : ℕ). slice_get (words_of (with_word st y w) n) x.at) e
         ∙ word_beside st y.stack y.at x.at w (λ f. h (place_same x y e f))
@@ -74,7 +76,7 @@ module _ (img : Image) (op : Operator) (r : Registers) (p : ℕ) where
   module _ (x : Place) (away : x.stack ≢ r.stack) (old : x.stack ≢ img.started + 1) (no_operand : NamesOperand img op r x → ⊥) where
     -- in another stack
     elsewhere : (st : Stacks) (n : ℕ) (o : Option (List Word)) → x.stack ≢ n → word_at (set st n o) x ≡ word_at st x
-    elsewhere st n o h = ap (λ (c : Option (List Word)). slice_get (words_or c) x.at) (set_other st n x.stack o h)
+    elsewhere st n o h = ap (λ (c : Option (List Word)). slice_get (words_or c) x.at) (changed_others st n x.stack o h)
 
     not_own : (n : ℕ) → n ≡ r.stack → x.stack ≢ n
     not_own n k e = away (e ∙ k)
@@ -135,10 +137,6 @@ module _ (img : Image) (op : Operator) (r : Registers) (p : ℕ) where
     changed_row (write w next) now k = changed_row next (write_made p w now) k.1 ∙ written_row w now k.0
 
 -- ---- states
-
-length_states : (ss : List ProcessState) (q : ℕ) (s : ProcessState) → length (set_numbered ss q s) ≡ length ss
-length_states ss zero s = refl
-length_states ss (suc k) s = length-set ss k s
 
 module _ (p q : ℕ) (other : q ≢ p) where
   -- as it was, or able; and its number is still among those that there have been
@@ -273,18 +271,7 @@ module _ (p q : ℕ) (other : q ≢ p) where
       by (inr f, l) = f
   able_listed (k ∷ ps) ss (inr i) low h = able_listed ps (set_numbered ss k Able) i low (omega (arith, h, length_states ss k Able))
 
-event_place : (to : Place) (es : List Event) (e : Event) → event_at to es ≡ Some e → e.place ≡ to
-event_place to [] e h = cc
-event_place to (x ∷ es) e h = by_test (event_place to es e) (same_place x.place to) refl h
-  where
-    by_test : (event_at to es ≡ Some e → e.place ≡ to) → (b : Bool) → same_place x.place to ≡ b → (if b then Some x else (event_at to es)) ≡ Some e → e.place ≡ to
-    by_test later true g i = let same : x ≡ e = cc in sym (ap (λ (y : Event). y.place) same) ∙ same_place-true x.place to g
-    by_test later false g i = later i
-
 -- ---- events
-
-same_number : (m n : ℕ) → (m == n) ≡ true → m ≡ n
-same_number m n h = grind (arith, nat_tests)
 
 module _ (img : Image) (op : Operator) (r : Registers) (p : ℕ) (x : Place) (away : x.stack ≢ r.stack) (unreached : ReachesEvent img op r x → ⊥) where
   not_there : (y : Place) → y.stack ≡ r.stack → x ≢ y
@@ -311,7 +298,7 @@ module _ (img : Image) (op : Operator) (r : Registers) (p : ℕ) (x : Place) (aw
   not_among (y ∷ places) k = by (not_among places k.1) (same_place y x) refl
     where
       by : event_is_among places x ≡ false → (b : Bool) → same_place y x ≡ b → (b || event_is_among places x) ≡ false
-      by rest true e = absurd (not_here y k.0 (sym (same_place-true y x e)))
+      by rest true e = absurd (not_here y k.0 (sym (same_place_true y x e)))
       by rest false e = rest
 
   joined_event : (places : List Place) (es : List Event) → ReachesAll img op r places → event_at x (joined_all places p es) ≡ event_at x es
@@ -385,10 +372,6 @@ module _ (img : Image) (op : Operator) (r : Registers) (p : ℕ) (x : Place) (aw
 
 -- ---- registers
 
-length_numbered : (rs : List Registers) (p : ℕ) (r : Registers) → length (set_numbered rs p r) ≡ length rs
-length_numbered rs zero r = refl
-length_numbered rs (suc k) r = length-set rs k r
-
 module _ (p q : ℕ) (other : q ≢ p) where
   -- the registers of another are as they were, and its number is still among those that there have been
   written_registers : (w : Write) (now : Image) → q ≤ length now.regs → (numbered (write_made p w now).regs q ≡ numbered now.regs q) × (q ≤ length (write_made p w now).regs)
@@ -437,7 +420,7 @@ module _ (img new : Image) (p : ℕ) (op : Operator) (r : Registers) where
 
   private_rest : (base : ℕ) (part : Private) → part.regs.stack ≡ r.stack → LeavesTheRest img (with_private img p base part) p op r
   private_rest base part own = record {
-    words = λ x away old no_operand. ap (λ (o : Option (List Word)). slice_get (words_or o) x.at) (set_other img.stacks part.regs.stack x.stack _ (λ e. away (e ∙ own)));
+    words = λ x away old no_operand. ap (λ (o : Option (List Word)). slice_get (words_or o) x.at) (changed_others img.stacks part.regs.stack x.stack _ (λ e. away (e ∙ own)));
     rows = λ n unreached. refl;
     events = λ x away unreached. record { left = []; is = sym (nobody_left (event_at x img.events)); able = λ k i other low h. absurd i };
     registers = λ q other h. get_numbered_other img.regs p q part.regs other;

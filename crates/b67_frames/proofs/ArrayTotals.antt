@@ -1,12 +1,10 @@
 -- How many elements and rows the arrays of the instances have that stand, before and after some are made.
 use Rattle.std.proofs.Common.{◌≡◌, refl, ap, ℕ, zero, suc, ◌+◌, ◌*◌, ◌≤◌, List, [], ◌∷◌, ◌++◌, length, set, Some, Bool, true, false, arith}
-use Rattle.b67_frames.proofs.Prelude.{nat_tests, slice_get, numbered, set_numbered, Kind, Named, elements_of, size_of_cells, size_unless, live_elements, new_arrays, has_no_room, Bounds, NamedCell, Instance, World, MOST_ELEMENTS, row_limit, some_same, none_some, rows_of_bounds, rows_of_cells, live_rows}
+use Rattle.algol_meaning.proofs.Cited.{elements_behind}
+use Rattle.b67_list.proofs.Numbers.{none_some}
+use Rattle.b67_frames.proofs.Prelude.{nat_tests, slice_get, numbered, set_numbered, Kind, Named, elements_of, size_of_cells, size_unless, live_elements, new_arrays, has_no_room, Bounds, NamedCell, Instance, World, MOST_ELEMENTS, row_limit, some_same, rows_of_bounds, rows_of_cells, live_rows}
 
 -- ---- of cells
-
-pub elements_behind : (cells more : List NamedCell) → size_of_cells (cells ++ more) ≡ size_of_cells cells + size_of_cells more
-elements_behind [] more = omega arith
-elements_behind (c ∷ cells) more = omega (arith, elements_behind cells more)
 
 pub rows_behind : (cells more : List NamedCell) → rows_of_cells (cells ++ more) ≡ rows_of_cells cells + rows_of_cells more
 rows_behind [] more = omega arith

@@ -1,6 +1,7 @@
 -- Arrays are made one after another, each among the rows that the one before leaves.
 use Rattle.std.proofs.Common.{◌≡◌, refl, sym, ap, ◌∙◌, ℕ, zero, suc, ◌+◌, ◌*◌, ◌≤◌, List, [], ◌∷◌, ◌++◌, length, Option, Some, None, arith}
-use Rattle.b67_frames.proofs.Prelude.{length-replicate, map, slice_get, PPair, Kind, Named, elements_of, new_arrays, initial_value, Bounds, NamedCell, Made, lows_of, made_in, Word, Row, Rows, row_at, row_limit, counted_words, some_same, none_some, Allotted, row_numbers_of, AreSized, AreMade, HoldElements, open_rows, rows_of_bounds}
+use Rattle.b67_list.proofs.Numbers.{none_some}
+use Rattle.b67_frames.proofs.Prelude.{length-replicate, map, slice_get, PPair, Kind, Named, elements_of, new_arrays, initial_value, Bounds, NamedCell, Made, lows_of, made_in, Word, Row, Rows, row_at, row_limit, counted_words, some_same, Allotted, row_numbers_of, AreSized, AreMade, HoldElements, open_rows, rows_of_bounds}
 use Rattle.b67_frames.proofs.ArraySizes.{HasDimensions, extents_of}
 use Rattle.b67_frames.proofs.ArrayRows.{array_rows, arrays_rows, arrays_allotted, arrays_descriptors}
 use Rattle.b67_frames.proofs.MotherRows.{open_apart}

@@ -1,8 +1,9 @@
 -- The rows of an image hold the arrays of a later world as well, where what changes has no array.
 use Rattle.std.proofs.Common.{◌≡◌, ◌≢◌, ◌⊎◌, inl, inr, refl, sym, ap, ◌∙◌, subst, ℕ, zero, suc, ◌+◌, ◌*◌, ◌≤◌, List, [], ◌∷◌, ◌++◌, length, Some, Bool, true, false, arith}
-use Rattle.b67_frames.proofs.Prelude.{nat_tests, if◌then◌else◌, ◌==◌, slice_get, slice_set, numbered, set_numbered, block_numbered, Scopes, same_name, size_of_cell, size_of_cells, size_unless, live_elements, Value, ArrayCell, Cell, simple, event, array, named, reference, NamedCell, Instance, World, cell_in, cells_with, DeclaredArray, Word, Rows, Simple, simple_cells, Wanted, made_of, some_same, none_some, numbered_last, same_or_not, numbered_set, numbered_other, Allotted, Layout, rows_of_cell, rows_of_cells, live_rows, HasArray, ArrayHasRow, ArraysAre, CellIs, CellsAre}
+use Rattle.b67_list.proofs.Numbered.{numbered_set}
+use Rattle.b67_list.proofs.Numbers.{none_some, number_different, number_told}
+use Rattle.b67_frames.proofs.Prelude.{if◌then◌else◌, ◌==◌, slice_get, slice_set, numbered, set_numbered, block_numbered, Scopes, same_name, size_of_cell, size_of_cells, size_unless, live_elements, Value, ArrayCell, Cell, simple, event, array, named, reference, NamedCell, Instance, World, cell_in, cells_with, DeclaredArray, Word, Rows, Simple, simple_cells, Wanted, made_of, some_same, numbered_last, same_or_not, numbered_other, Allotted, Layout, rows_of_cell, rows_of_cells, live_rows, HasArray, ArrayHasRow, ArraysAre, CellIs, CellsAre}
 use Rattle.b67_templates.specs.Cells as wants
-use Rattle.b67_rows.proofs.Displays.{same_is}
 
 -- ---- the rows of instances
 
@@ -10,14 +11,11 @@ use Rattle.b67_rows.proofs.Displays.{same_is}
 abbrev pub rows_but : (ℕ → List Allotted) → ℕ → List Allotted → ℕ → List Allotted
 rows_but rows n as' i = if i == n then as' else rows i
 
-pub is_other : (m n : ℕ) → m ≢ n → (m == n) ≡ false
-is_other m n h = grind (arith, nat_tests)
-
 pub rows_there : (rows : ℕ → List Allotted) (n : ℕ) (as' : List Allotted) (i : ℕ) → i ≡ n → rows_but rows n as' i ≡ as'
-rows_there rows n as' i same = ap (λ (b : Bool). if b then as' else rows i) (same_is i n same)
+rows_there rows n as' i same = ap (λ (b : Bool). if b then as' else rows i) (number_told i n same)
 
 pub rows_other : (rows : ℕ → List Allotted) (n : ℕ) (as' : List Allotted) (i : ℕ) → i ≢ n → rows_but rows n as' i ≡ rows i
-rows_other rows n as' i other = ap (λ (b : Bool). if b then as' else rows i) (is_other i n other)
+rows_other rows n as' i other = ap (λ (b : Bool). if b then as' else rows i) (number_different i n other)
 
 -- ---- arrays that are the same
 

@@ -1,16 +1,20 @@
 -- The rows of an image hold the arrays of a world in which an instance has made more of them.
 use Rattle.std.proofs.Common.{◌≡◌, ◌≢◌, ◌⊎◌, inl, inr, refl, sym, ap, ◌∙◌, ℕ, zero, suc, ◌+◌, ◌-◌, ◌*◌, ◌<◌, ◌≤◌, List, [], ◌∷◌, ◌++◌, length, Some, Bool, false, arith, length-append}
-use Rattle.b67_frames.proofs.Prelude.{map, slice_get, numbered, set_numbered, block_numbered, PPair, Scopes, Kind, Named, elements_of, size_of_cells, size_unless, live_elements, new_arrays, has_wrong_size, has_no_room, Bounds, ArrayCell, array, NamedCell, Instance, World, DeclaredArray, Made, lows_of, made_in, an_array, an_event, Word, Rows, row_limit, get_within, simple_cells, made_of, AreDimensions, some_same, none_some, same_or_not, most_or_more, numbered_set, numbered_other, Allotted, Layout, row_numbers_of, AreSized, AreMade, HoldElements, open_rows, rows_of_bounds, rows_of_cells, live_rows, HasArray, ArraysAre}
+use Rattle.b67_list.proofs.Lists.{get_within}
+use Rattle.b67_list.proofs.Numbered.{numbered_set}
+use Rattle.b67_list.proofs.Numbers.{none_some}
+use Rattle.b67_table.proofs.Stacks.{get_append}
+use Rattle.b67_frames.proofs.Prelude.{map, slice_get, numbered, set_numbered, block_numbered, PPair, Scopes, Kind, Named, elements_of, size_of_cells, size_unless, live_elements, new_arrays, has_wrong_size, has_no_room, Bounds, ArrayCell, array, NamedCell, Instance, World, DeclaredArray, Made, lows_of, made_in, an_array, an_event, Word, Rows, row_limit, simple_cells, made_of, AreDimensions, some_same, same_or_not, most_or_more, numbered_other, Allotted, Layout, row_numbers_of, AreSized, AreMade, HoldElements, open_rows, rows_of_bounds, rows_of_cells, live_rows, HasArray, ArraysAre}
 use Rattle.std.proofs.lemmas.List.{length-map}
 use Rattle.algol_meaning.specs.Arrays.{new_array}
+use Rattle.algol_meaning.proofs.Cited.{elements_behind}
 use Rattle.algol_paths.specs.Arrays.{arrays_in}
 use Rattle.b67_frames.proofs.ArraySizes.{HasDimensions, extents_of, has_dimensions, are_sized, rows_few}
 use Rattle.b67_frames.proofs.ArrayRows.{arrays_rows, arrays_allotted, arrays_descriptors}
 use Rattle.b67_frames.proofs.MotherRows.{open_apart}
 use Rattle.b67_frames.proofs.OneArray.{new_cell, hold_still, holds_open}
 use Rattle.b67_frames.proofs.ArraysInTurn.{made_long, AreAdded, arrays_added, allotted_many, arrays_are_made}
-use Rattle.b67_frames.proofs.ArrayTotals.{elements_behind, rows_behind, elements_new, rows_new, elements_grow, rows_grow, numbers_left, still_few}
-use Rattle.b67_frames.proofs.EventCells.{get_first}
+use Rattle.b67_frames.proofs.ArrayTotals.{rows_behind, elements_new, rows_new, elements_grow, rows_grow, numbers_left, still_few}
 
 -- ---- lists by number
 
@@ -166,10 +170,10 @@ module _ (sc : Scopes) (w : World) (lay : Layout) (rows : Rows) (are : ArraysAre
               is = ap (λ (k : ℕ). numbered w.instances k) (sym same) ∙ m.is;
               stands = m.stands;
               declares = ap (λ (ds : List Made). slice_get ds number) m.order ∙ declares_it;
-              has = sym (get_first m.instance.cells (new_arrays kind bs ns) (front + number) (omega (arith, low, long))) ∙ has_it;
+              has = sym (get_append m.instance.cells (new_arrays kind bs ns) (front + number) (omega (arith, low, long))) ∙ has_it;
               allotted =
                   ap (λ (k : ℕ). slice_get (lay.rows k) number) (sym same)
-                  ∙ sym (get_first (lay.rows i) (allotted_new ns bs rows) number (omega (arith, low, long_rows)))
+                  ∙ sym (get_append (lay.rows i) (allotted_new ns bs rows) number (omega (arith, low, long_rows)))
                   ∙ allotted_it;
             }
 
@@ -185,7 +189,7 @@ module _ (sc : Scopes) (w : World) (lay : Layout) (rows : Rows) (are : ArraysAre
             kind_is : d.kind ≡ kind
             kind_is =
                 got_kind kind pairs ns l d
-                (sym (get_first (made_in kind ns pairs) m.later l within)
+                (sym (get_append (made_in kind ns pairs) m.later l within)
                 ∙ sym (get_behind m.declared (made_in kind ns pairs ++ m.later) number l place)
                 ∙ declares_it)
 

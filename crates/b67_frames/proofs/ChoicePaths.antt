@@ -5,7 +5,7 @@ use Rattle.b67_num.specs.declared.FaultKind.TheVariants as fault
 use Rattle.b67_num.specs.Whole.{fault_of}
 use Rattle.b67_deeds.specs.Deeds as deeds
 use Rattle.b67_deeds.specs.Deeds.{Deed, Next, deed}
-use Rattle.algol_laws.proofs.Releasing.{changed_processes, forgotten_processes, joined_processes, able_instances}
+use Rattle.algol_laws.proofs.Releasing.{changed_processes, forgotten_processes, able_instances}
 use Rattle.algol_meaning.specs.declared.TheConstants.{MOST_STARTED}
 use Rattle.algol_meaning.specs.Value.{number, whole_of}
 use Rattle.b67_deeds.specs.Events.{left_by}
@@ -18,9 +18,10 @@ use Rattle.algol_meaning.specs.Rest.{done, value, entered}
 use Rattle.algol_meaning.specs.Statements.{items_from, settle_items}
 use Rattle.algol_meaning.specs.Asks as asks
 use Rattle.algol_meaning.specs.Choice.{Choice, choice, choice_in, choice_of, is_subscripted, nth_exists, home, here, fails, read_of, resolved_of, indexed_at, element_read_at, stored, left_choice, left_with, left_or_ended, gone, gone_to, goes_to, told_answer, did, does_with_first, all_followed, waits_for_any, wakes_or_waits, does_with}
-use Rattle.algol_standing.proofs.Jumping.{cut_all}
+use Rattle.algol_meaning.proofs.Cited.{joined_processes, leave_processes}
+use Rattle.algol_standing.proofs.Jumping.{cut_all, own_both}
 use Rattle.algol_standing.proofs.Pairs.{pairs_self, pairs_then_set}
-use Rattle.algol_standing.proofs.Stacks.{leave_processes, leave_back, numbered_cases}
+use Rattle.algol_standing.proofs.Stacks.{leave_back, numbered_cases}
 use Rattle.b67_frames.proofs.Facts.{HasFacts}
 use Rattle.b67_frames.proofs.Paths.{KeepsStack, keeps_all, keeps_more, keeps_fewer, AreAlike, HaveAlike, alike_pairs, alike_self, alike_front, each_alike, each_but, paths_stay}
 
@@ -98,15 +99,6 @@ left_gone : (v : World) → HasFacts v → (is : List ℕ) → AreLeft v is → 
 left_gone v facts is are i inside st =
     let x = facts.there i st in
     let clash : true ≡ false = sym (are i x.0 inside x.1) ∙ x.2 in cc
-
-pub own_both : (xs ys : List Part) → own_instances (xs ++ ys) ≡ own_instances xs ++ own_instances ys
-own_both [] ys = refl
-own_both (x ∷ xs) ys = by (is_evaluation x.purpose) (own_both xs ys)
-  where
-    by : (b : Bool) → own_instances (xs ++ ys) ≡ own_instances xs ++ own_instances ys →
-        (if b then own_instances (xs ++ ys) else x.instance ∷ own_instances (xs ++ ys)) ≡ (if b then own_instances xs else x.instance ∷ own_instances xs) ++ own_instances ys
-    by true e = e
-    by false e = ap (λ (is : List ℕ). x.instance ∷ is) e
 
 -- ---- the choices of process p
 

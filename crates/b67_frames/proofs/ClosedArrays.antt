@@ -1,6 +1,10 @@
 -- The arrays of an instance are closed when its frame is left.
 use Rattle.std.proofs.Common.{◌≡◌, ◌≢◌, ◌⊎◌, inl, inr, refl, sym, ap, ◌∙◌, subst, ℕ, zero, suc, ◌+◌, ◌*◌, ◌<◌, ◌≤◌, List, [], ◌∷◌, ◌++◌, length, Option, Some, Bool, true, false, arith}
-use Rattle.b67_frames.proofs.Prelude.{slice_get, slice_set, numbered, set_numbered, block_numbered, Scopes, size_of_cell, size_of_cells, size_unless, live_elements, leave, ArrayCell, Cell, array, NamedCell, Instance, World, instance_at, DeclaredArray, Made, an_array, an_event, Word, as_descriptor, Descriptor, Pcw, Rows, row_at, Image, with_rows, closed_by, array_closed, arrays_closed, Change, changed, simple_cells, made_of, control_words, some_same, none_some, same_or_not, numbered_set, numbered_other, get-front, get-behind, Allotted, row_numbers_of, Layout, CellIsMade, AreMade, HoldElements, rows_of_cell, rows_of_cells, live_rows, HasArray, ArrayHasRow, ArraysAre, block_controls}
+use Rattle.algol_meaning.proofs.Cited.{elements_behind}
+use Rattle.b67_list.proofs.Lists.{get_front}
+use Rattle.b67_list.proofs.Numbered.{numbered_set}
+use Rattle.b67_list.proofs.Numbers.{none_some}
+use Rattle.b67_frames.proofs.Prelude.{slice_get, slice_set, numbered, set_numbered, block_numbered, Scopes, size_of_cell, size_of_cells, size_unless, live_elements, leave, ArrayCell, Cell, array, NamedCell, Instance, World, instance_at, DeclaredArray, Made, an_array, an_event, Word, as_descriptor, Descriptor, Pcw, Rows, row_at, Image, with_rows, closed_by, array_closed, arrays_closed, Change, changed, simple_cells, made_of, control_words, some_same, same_or_not, numbered_other, get_behind, Allotted, row_numbers_of, Layout, CellIsMade, AreMade, HoldElements, rows_of_cell, rows_of_cells, live_rows, HasArray, ArrayHasRow, ArraysAre, block_controls}
 use Rattle.b67_rows.proofs.Words.{event_describes_nothing}
 use Rattle.b67_frames.specs.Arrays.{IsEventMade}
 use Rattle.b67_frames.proofs.ArraysKept.{no_elements, no_rows}
@@ -11,7 +15,7 @@ use Rattle.b67_frames.proofs.MadeArrays.{same_cell}
 use Rattle.b67_frames.proofs.OneClosed.{holds_same, without_array, array_keeps, OneClosed, one_closes}
 use Rattle.b67_frames.proofs.OwnCells.{OwnCells, framed_cells}
 use Rattle.b67_frames.proofs.Zeros.{cells_length}
-use Rattle.b67_frames.proofs.ArrayTotals.{rows_behind, elements_behind}
+use Rattle.b67_frames.proofs.ArrayTotals.{rows_behind}
 
 -- ---- sums
 
@@ -149,11 +153,11 @@ module _ (sc : Scopes) (w : World) (lay : Layout) (img : Image) (are : ArraysAre
       closes_from own.declared own.arrays (lay.rows i) own.descriptors 0 img.rows own.made (λ n none. refl)
       (λ n m d far there.
       let same : m ≡ n = omega (arith, far) in
-      ap (λ (ds : List Made). slice_get ds m) own.order ∙ ap (λ (j : ℕ). slice_get (own.declared ++ own.later) j) same ∙ get-front own.declared own.later n (an_array d) there)
+      ap (λ (ds : List Made). slice_get ds m) own.order ∙ ap (λ (j : ℕ). slice_get (own.declared ++ own.later) j) same ∙ get_front own.declared own.later n (an_array d) there)
       (λ n m c far there.
       let same : m ≡ n = omega (arith, far) in
       ap (λ (cells : List NamedCell). slice_get cells (length (simple_cells sc (block_numbered sc.blocks x.block)) + m)) own.has
-      ∙ get-behind own.simple own.arrays n (length (simple_cells sc (block_numbered sc.blocks x.block)) + m)
+      ∙ get_behind own.simple own.arrays n (length (simple_cells sc (block_numbered sc.blocks x.block)) + m)
       (omega (arith, far, cells_length (simple_cells sc (block_numbered sc.blocks x.block)) own.simple own.values own.simple_are))
       ∙ there)
       (λ n m a far there. let same : m ≡ n = omega (arith, far) in ap (λ (j : ℕ). slice_get (lay.rows i) j) same ∙ there)

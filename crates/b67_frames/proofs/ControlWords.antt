@@ -1,13 +1,15 @@
 -- The control words among the cells of a frame: of the procedures that its block declares, and of its actuals.
 use Rattle.std.proofs.Common.{◌≡◌, refl, ap, ◌∙◌, subst, ℕ, zero, suc, ◌+◌, ◌<◌, ◌≤◌, List, [], ◌∷◌, length, Some, arith, length-append}
-use Rattle.b67_frames.proofs.Prelude.{slice_get, Block, block_numbered, level_of, Scopes, MOST_BLOCK_CELLS, Named, segment_of, pcw_word, Pcw, simple_cells, procedures, Actual, actuals_of, made_of, Context, AreNested, control_words, some_same, none_some, get-front, get-behind, block_controls}
+use Rattle.b67_list.proofs.Lists.{get_front, length_map}
+use Rattle.b67_list.proofs.Numbers.{none_some}
+use Rattle.b67_frames.proofs.Prelude.{slice_get, Block, block_numbered, level_of, Scopes, MOST_BLOCK_CELLS, Named, segment_of, pcw_word, Pcw, simple_cells, procedures, Actual, actuals_of, made_of, Context, AreNested, control_words, some_same, get_behind, block_controls}
 use Rattle.algol_tree.specs.Blocks.{number_at}
 use Rattle.b67_control.specs.Control.{Fits_pcw}
 use Rattle.b67_segment.specs.Operators.{Placed}
 use Rattle.b67_templates.specs.Fragments.{ControlsAt, code_at, routine_at, procedure_controls}
 use Rattle.b67_templates.specs.Cells.{control_segments, has_place}
 use Rattle.b67_templates.specs.Code.{RoutineAt, RoutinesAt, routine_controls}
-use Rattle.b67_rows.proofs.Segmented.{get_mapped, length_mapped}
+use Rattle.b67_rows.proofs.Segmented.{get_mapped}
 use Rattle.b67_frames.specs.Frames.{AllFit, controls_count}
 
 -- the cells of a block are few: simple cells, control words, and what actions make
@@ -22,7 +24,7 @@ routines_long sc context ps level (a ∷ actuals) ats are = ap length are.2 ∙ 
 
 -- as many words as there are control words
 pub as_many_controls : (pcws : List Pcw) → length (control_words pcws) ≡ length pcws
-as_many_controls pcws = length_mapped (λ (pcw : Pcw). pcw_word pcw) pcws
+as_many_controls pcws = length_map (λ (pcw : Pcw). pcw_word pcw) pcws
 
 -- one for each actual
 routines_many : (segment level : ℕ) (actuals : List Actual) (ats : List ℕ) → length ats ≡ length actuals → length (routine_controls segment level actuals ats) ≡ length actuals
@@ -37,8 +39,8 @@ controls_many sc j ats e =
     omega (
       arith,
       length-append (procedure_controls (level_of b) (control_segments sc b.decls)) (routine_controls (segment_of sc.blocks j) (level_of b) (actuals_of sc b) ats),
-      length_mapped (λ (segment : ℕ). code_at segment 0 (level_of b + 1)) (control_segments sc b.decls),
-      length_mapped (λ (n : Named). segment_of sc.blocks (number_at sc.blocks n.spot)) (procedures b.decls),
+      length_map (λ (segment : ℕ). code_at segment 0 (level_of b + 1)) (control_segments sc b.decls),
+      length_map (λ (n : Named). segment_of sc.blocks (number_at sc.blocks n.spot)) (procedures b.decls),
       routines_many (segment_of sc.blocks j) (level_of b) (actuals_of sc b) ats e,
     )
 
@@ -49,7 +51,7 @@ get_control sc j ats k s e =
     let b : Block = block_numbered sc.blocks j in
     let c : Pcw = code_at s 0 (level_of b + 1) in
     get_mapped (λ (pcw : Pcw). pcw_word pcw) (block_controls sc j ats) k c
-    (get-front (procedure_controls (level_of b) (control_segments sc b.decls)) (routine_controls (segment_of sc.blocks j) (level_of b) (actuals_of sc b) ats) k c
+    (get_front (procedure_controls (level_of b) (control_segments sc b.decls)) (routine_controls (segment_of sc.blocks j) (level_of b) (actuals_of sc b) ats) k c
     (get_mapped (λ (segment : ℕ). code_at segment 0 (level_of b + 1)) (control_segments sc b.decls) k s e))
 
 -- ---- the code of an actual
@@ -87,11 +89,11 @@ pub routine_control : (sc : Scopes) (j : ℕ) (ats : List ℕ) (k : ℕ) (a : Ac
     slice_get (block_controls sc j ats) (length (procedures (block_numbered sc.blocks j).decls) + k) ≡ Some (routine_at (has_place a.expr) (segment_of sc.blocks j) at (level_of (block_numbered sc.blocks j) + 1))
 routine_control sc j ats k a at e f =
     let b : Block = block_numbered sc.blocks j in
-    get-behind (procedure_controls (level_of b) (control_segments sc b.decls)) (routine_controls (segment_of sc.blocks j) (level_of b) (actuals_of sc b) ats) k (length (procedures b.decls) + k)
+    get_behind (procedure_controls (level_of b) (control_segments sc b.decls)) (routine_controls (segment_of sc.blocks j) (level_of b) (actuals_of sc b) ats) k (length (procedures b.decls) + k)
     (omega (
       arith,
-      length_mapped (λ (segment : ℕ). code_at segment 0 (level_of b + 1)) (control_segments sc b.decls),
-      length_mapped (λ (n : Named). segment_of sc.blocks (number_at sc.blocks n.spot)) (procedures b.decls),
+      length_map (λ (segment : ℕ). code_at segment 0 (level_of b + 1)) (control_segments sc b.decls),
+      length_map (λ (n : Named). segment_of sc.blocks (number_at sc.blocks n.spot)) (procedures b.decls),
     ))
     ∙ routine_got (segment_of sc.blocks j) (level_of b) (actuals_of sc b) ats k a at e f
 

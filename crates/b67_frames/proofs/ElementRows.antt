@@ -1,9 +1,9 @@
 -- The rows of an array: the descriptors in the row of its mother, and the words of its elements.
 use Rattle.std.proofs.Common.{◌≡◌, sym, ap, ◌∙◌, subst, ℕ, ◌+◌, ◌*◌, ◌^◌, ◌<◌, ◌≤◌, List, [], ◌∷◌, length, Option, Some, Bool, true, false, arith}
-use Rattle.b67_frames.proofs.Prelude.{slice_get, map, Scopes, Kind, size_of, flat, Value, Bounds, ArrayCell, World, Word, as_descriptor, Row, Rows, row_at, row_limit, array_word, HasKind, ValueIs, Allotted, Layout, row_length, DescriptorIs, HoldElements, ElementIsIn}
+use Rattle.b67_frames.proofs.Prelude.{slice_get, map, Scopes, Kind, size_of, flat, Value, Bounds, ArrayCell, World, Word, as_descriptor, Row, Rows, row_at, row_limit, array_word, HasKind, ValueIs, Allotted, Layout, row_length, HoldElements, ElementIsIn}
 use Rattle.algol_meaning.specs.Arrays.{or_number, element_at}
 use Rattle.algol_standing.proofs.Pairs.{map_forth}
-use Rattle.b67_control.proofs.ControlLaws.{as_descriptor-descriptor_word}
+use Rattle.b67_control.proofs.ControlLaws.{as_descriptor_descriptor_word}
 use Rattle.b67_table.specs.Arrays.{word_in_row, indexed_in, as_indexed}
 use Rattle.b67_rows.proofs.Numbers.{get_within}
 use Rattle.b67_frames.specs.Arrays.{row_copy, element_copy}
@@ -20,21 +20,21 @@ number_fits n low = omega arith
 pub array_read : (mother : Bool) (size n : ℕ) → size ≤ 1048576 → n < row_limit →
     as_descriptor (array_word mother size n) ≡ Some (record { presence = true; copy = false; indexed = false; mother = mother; length = size; address = n })
 array_read mother size n few low =
-    as_descriptor-descriptor_word (record { presence = true; copy = false; indexed = false; mother = mother; length = size; address = n })
+    as_descriptor_descriptor_word (record { presence = true; copy = false; indexed = false; mother = mother; length = size; address = n })
     (size_fits size few, (number_fits n low, tt))
 
 module _ (sc : Scopes) (w : World) (lay : Layout) where
   pub row_copy_read : (size n : ℕ) → size ≤ 1048576 → n < row_limit →
       as_descriptor (row_copy sc w lay size n) ≡ Some (record { presence = true; copy = true; indexed = false; mother = false; length = size; address = n })
   row_copy_read size n few low =
-      as_descriptor-descriptor_word (record { presence = true; copy = true; indexed = false; mother = false; length = size; address = n })
+      as_descriptor_descriptor_word (record { presence = true; copy = true; indexed = false; mother = false; length = size; address = n })
       (size_fits size few, (number_fits n low, tt))
 
   pub element_copy_read : (at n : ℕ) → at ≤ 1048576 → n < row_limit →
       as_indexed (element_copy sc w lay at n) ≡ Some (record { presence = true; copy = true; indexed = true; mother = false; length = at; address = n })
   element_copy_read at n few low =
       ap indexed_in
-      (as_descriptor-descriptor_word (record { presence = true; copy = true; indexed = true; mother = false; length = at; address = n })
+      (as_descriptor_descriptor_word (record { presence = true; copy = true; indexed = true; mother = false; length = at; address = n })
       (size_fits at few, (number_fits n low, tt)))
 
   -- ---- places
@@ -68,25 +68,6 @@ module _ (sc : Scopes) (w : World) (lay : Layout) where
   at_below (b ∷ c ∷ []) (j ∷ k ∷ []) index at within = omega (arith, within.1, within.3)
   at_below (b ∷ c ∷ []) (j ∷ k ∷ l ∷ ks) index at within = absurd within
   at_below (b ∷ c ∷ d ∷ bs) ks index at within = absurd within
-
-  -- the row in which it lies
-  pub part_there : (bs : List Bounds) (a : Allotted) (word : Word) (ks : List ℕ) (index at : ℕ) → DescriptorIs bs a word → ElementIsIn sc w lay bs ks index at → (n : ℕ) × (slice_get a.parts index ≡ Some n)
-  part_there [] a word ks index at is within = absurd is
-  part_there (b ∷ []) a word [] index at is within = absurd within
-  part_there (b ∷ []) a word (k ∷ []) index at is within =
-      let n : ℕ = is.0 in
-      let parts : a.parts ≡ n ∷ [] = ap (λ (x : Allotted). x.parts) is.2 in
-      (n, ap (λ (j : ℕ). slice_get a.parts j) within.0 ∙ ap (λ (ns : List ℕ). slice_get ns 0) parts)
-  part_there (b ∷ []) a word (k ∷ l ∷ ks) index at is within = absurd within
-  part_there (b ∷ c ∷ []) a word [] index at is within = absurd within
-  part_there (b ∷ c ∷ []) a word (j ∷ []) index at is within = absurd within
-  part_there (b ∷ c ∷ []) a word (j ∷ k ∷ []) index at is within =
-      let many : length a.parts ≡ size_of b = is.3 in
-      let row : index ≡ j = within.0 in
-      let low : j < size_of b = within.2 in
-      get_within a.parts index (omega (arith, many, row, low))
-  part_there (b ∷ c ∷ []) a word (j ∷ k ∷ l ∷ ks) index at is within = absurd within
-  part_there (b ∷ c ∷ d ∷ bs) a word ks index at is within = absurd is
 
   -- ---- what is found in the rows
 

@@ -1,9 +1,11 @@
 -- The arrays of a world in which an instance has made an event, or in which an event has changed, are those that they were.
-use Rattle.std.proofs.Common.{◌≡◌, ◌≢◌, ◌⊎◌, inl, inr, refl, sym, ap, ◌∙◌, subst, ℕ, zero, suc, ◌+◌, ◌*◌, ◌<◌, ◌≤◌, List, [], ◌∷◌, ◌++◌, length, Some, Bool, true, false, arith}
-use Rattle.b67_frames.proofs.Prelude.{if◌then◌else◌, slice_get, slice_set, numbered, set_numbered, EventState, block_numbered, Scopes, same_name, size_of_cell, size_of_cells, size_unless, live_elements, ArrayCell, Cell, event, array, NamedCell, Instance, World, instance_at, cell_in, cells_with, by_cell, DeclaredArray, Made, an_array, an_event, Word, Rows, simple_cells, made_of, some_same, none_some, same_or_not, numbered_set, numbered_other, Allotted, Layout, IsMadeSo, AreMade, rows_of_cell, rows_of_cells, live_rows, HasArray, ArraysAre}
+use Rattle.std.proofs.Common.{◌≡◌, ◌≢◌, ◌⊎◌, inl, inr, refl, sym, ap, ◌∙◌, subst, ℕ, zero, suc, ◌+◌, ◌*◌, ◌≤◌, List, [], ◌∷◌, ◌++◌, length, Some, Bool, true, false, arith}
+use Rattle.b67_list.proofs.Lists.{get_set_other}
+use Rattle.b67_list.proofs.Numbered.{numbered_set}
+use Rattle.b67_list.proofs.Numbers.{none_some}
+use Rattle.b67_frames.proofs.Prelude.{if◌then◌else◌, slice_get, slice_set, numbered, set_numbered, EventState, block_numbered, Scopes, same_name, size_of_cell, size_of_cells, size_unless, live_elements, ArrayCell, Cell, event, array, NamedCell, Instance, World, instance_at, cell_in, cells_with, by_cell, DeclaredArray, Made, an_array, an_event, Word, Rows, simple_cells, made_of, some_same, same_or_not, numbered_other, Allotted, Layout, IsMadeSo, AreMade, rows_of_cell, rows_of_cells, live_rows, HasArray, ArraysAre}
 use Rattle.b67_frames.proofs.ArraysKept.{arrays_by, elements_numbered, rows_numbered}
 use Rattle.b67_frames.proofs.Knowing.{KeepsArrays, IsNoReference, changed_or_not, other_stays, names_stay}
-use Rattle.b67_frames.proofs.StoredRows.{get_other}
 
 -- ---- one instance changes
 
@@ -98,12 +100,6 @@ array_in_front [] name e (suc k) other c is = none_some is
 array_in_front (d ∷ cells) name e zero other c is = is
 array_in_front (d ∷ cells) name e (suc k) other c is = array_in_front cells name e k other c is
 
--- what stands among these stands there before more
-pub get_first : {A : Type 0} (xs ys : List A) (k : ℕ) → k < length xs → slice_get (xs ++ ys) k ≡ slice_get xs k
-get_first [] ys k low = absurd (omega (arith, low))
-get_first (x ∷ xs) ys zero low = refl
-get_first (x ∷ xs) ys (suc k) low = get_first xs ys k (omega (arith, low))
-
 -- ---- an event changes
 
 module _ (name : List ℕ) (later : EventState) where
@@ -197,6 +193,6 @@ keeps_event sc w w' lay j name e later before same =
 
 -- beside an item that is set all stay
 pub beside_set : {A : Type 0} (front items : List A) (number : ℕ) (v : A) (k : ℕ) → k ≢ length front + number → slice_get (front ++ slice_set items number v) k ≡ slice_get (front ++ items) k
-beside_set [] items number v k other = get_other items number k v (λ (e : k ≡ number). other (omega (arith, e)))
+beside_set [] items number v k other = get_set_other items number k v (λ (e : k ≡ number). other (omega (arith, e)))
 beside_set (x ∷ front) items number v zero other = refl
 beside_set (x ∷ front) items number v (suc k) other = beside_set front items number v k (λ (e : k ≡ length front + number). other (omega (arith, e)))

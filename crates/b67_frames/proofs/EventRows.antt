@@ -1,6 +1,6 @@
 -- ENTR on the intrinsics of events: an event is made, told, or acted on.
 use Rattle.std.proofs.Common.{◌≡◌, sym, ap, ◌∙◌, ℕ, ◌+◌, ◌-◌, List, [], ◌∷◌, ◌++◌, Option, Some, Bool, true, append-nil}
-use Rattle.b67_frames.proofs.Prelude.{reverse-reverse, reverse, numbered, EventDeed, Word, Place, as_irw, as_sirw, event_word, Irw, Registers, Sirw, Intrinsic, Code, word_at, with_stack, is_open, event_opened, event_of, if_chained, finished_at, place, Effect, gives, Image, with_stacks, with_registers, with_events, Look, ◌>->◌, valid, pushed, display_at, Change, Program, answer, asked, changed, effect_of, see, ◌>>=◌, done, registers, event_deed, cell_place, irw_or_sirw, enter, raw, Core, stack_of, with_core, AtOperator, CallsIntrinsic, entered_asked, entered, chained_asked, chained_is, cut_words, raw_is, stack-over, pushed_do}
+use Rattle.b67_frames.proofs.Prelude.{reverse-reverse, reverse, numbered, EventDeed, Word, Place, as_irw, as_sirw, event_word, Irw, Registers, Sirw, Intrinsic, Code, word_at, with_stack, is_open, event_opened, event_of, if_chained, finished_at, place, Effect, gives, Image, with_stacks, with_registers, with_events, Look, ◌>->◌, valid, pushed, display_at, Change, Program, answer, asked, changed, effect_of, see, ◌>>=◌, done, registers, event_deed, cell_place, irw_or_sirw, enter, raw, Core, stack_of, with_core, AtOperator, CallsIntrinsic, entered_asked, entered, chained_asked, chained_is, cut_words, raw_is, stack_over, pushed_do}
 use Rattle.b67_word.specs.Word as words
 use Rattle.b67_control.specs.declared.EventWord.{EventWord}
 use Rattle.b67_events.specs.Events.{state_at, deed_at}
@@ -192,4 +192,4 @@ module _ (code : Code) (here : AtOperator code (ops.Plain kinds.Entr)) (name : I
       ∙ ap (λ (ws : List Word). gives (changed p (pushed r'.stack (words.truth told ∷ []) (registers ((told_core told).registers) done)) (with_stacks after (with_stack img.stacks r'.stack ws))))
       (cut_words code here name (word ∷ []) reference marked below c)
       ∙ ap (λ (i : Image). gives i) (pushed_do p after r'.stack (stack_of core) has.stack (words.truth told ∷ []) (core.below ++ reverse below) (registers ((told_core told).registers) done))
-      ∙ ap (λ (ws : List Word). gives (with_registers (with_stacks after (with_stack img.stacks r'.stack ws)) p ((told_core told).registers))) (sym (stack-over core.below (words.truth told ∷ []) below))
+      ∙ ap (λ (ws : List Word). gives (with_registers (with_stacks after (with_stack img.stacks r'.stack ws)) p ((told_core told).registers))) (sym (stack_over core.below (words.truth told ∷ []) below))

@@ -1,6 +1,8 @@
 -- The events of an image are those of a later world, in which an instance has made one more, or in which one has changed.
 use Rattle.std.proofs.Common.{◌≡◌, ◌≢◌, ◌⊎◌, inl, inr, sym, ap, ◌∙◌, subst, ℕ, zero, suc, ◌+◌, ◌<◌, ◌≤◌, List, [], ◌∷◌, ◌++◌, length, Some, arith}
-use Rattle.b67_frames.proofs.Prelude.{slice_get, numbered, set_numbered, EventState, block_numbered, Scopes, event, NamedCell, Instance, World, Place, one_event, Event, event_at, event_opened, get_within, place, simple_cells, made_of, made_base, some_same, same_or_not, most_or_more, numbered_set, numbered_other, get-seam, Layout, HasEvent, EventsAre}
+use Rattle.b67_list.proofs.Lists.{get_within}
+use Rattle.b67_list.proofs.Numbered.{numbered_set}
+use Rattle.b67_frames.proofs.Prelude.{slice_get, numbered, set_numbered, EventState, block_numbered, Scopes, event, NamedCell, Instance, World, Place, one_event, Event, event_at, event_opened, place, simple_cells, made_of, made_base, some_same, same_or_not, most_or_more, numbered_other, get_seam, Layout, HasEvent, EventsAre}
 use Rattle.std.specs.Option.{option_map}
 use Rattle.b67_deeds.specs.Events.{fresh_state}
 use Rattle.b67_events.specs.Events.{event_changed}
@@ -89,7 +91,7 @@ module _ (sc : Scopes) (w w' : World) (lay lay' : Layout) (i : ℕ) (makes : Mak
           cell_is : fresh_state ≡ e
           cell_is =
               let lies : slice_get (x.cells ++ record { name = name; cell = event fresh_state } ∷ []) (front + other) ≡ Some (record { name = name; cell = event fresh_state }) =
-              get-seam x.cells (record { name = name; cell = event fresh_state }) [] (front + other) (omega (arith, many, number_is)) in
+              get_seam x.cells (record { name = name; cell = event fresh_state }) [] (front + other) (omega (arith, many, number_is)) in
               let cells_are : event fresh_state ≡ event e = ap (λ (c : NamedCell). c.cell) (some_same (sym lies ∙ has_it)) in
               cc
 

@@ -1,7 +1,10 @@
 -- The events of an image are those of a later world as well, where no event's cell changes: those that are left are closed.
 use Rattle.std.proofs.Common.{◌≡◌, ◌≢◌, ◌⊎◌, inl, inr, refl, sym, ap, ◌∙◌, subst, ℕ, zero, suc, ◌+◌, List, [], ◌∷◌, ◌++◌, length, Some, None, Bool, true, false, arith}
-use Rattle.b67_frames.proofs.Prelude.{if◌then◌else◌, slice_get, numbered, set_numbered, EventState, block_numbered, Scopes, same_name, Cell, event, NamedCell, Instance, World, cells_with, Place, one_event, Event, event_at, is_from, closed_from, get_within, place, simple_cells, made_of, made_base, some_same, none_some, numbered_last, same_or_not, numbered_set, numbered_other, Layout, HasEvent, EventsAre}
-use Rattle.b67_faithful.proofs.Contradictions.{true_false}
+use Rattle.b67_list.proofs.Lists.{get_within}
+use Rattle.b67_list.proofs.Numbered.{numbered_set}
+use Rattle.b67_list.proofs.Numbers.{none_some}
+use Rattle.b67_list.proofs.Truths.{true_false}
+use Rattle.b67_frames.proofs.Prelude.{if◌then◌else◌, slice_get, numbered, set_numbered, EventState, block_numbered, Scopes, same_name, Cell, event, NamedCell, Instance, World, cells_with, Place, one_event, Event, event_at, is_from, closed_from, place, simple_cells, made_of, made_base, some_same, numbered_last, same_or_not, numbered_other, Layout, HasEvent, EventsAre}
 use Rattle.b67_rows.proofs.Growing.{numbered_earlier}
 
 -- ---- events that are the same

@@ -1,13 +1,14 @@
 -- The events of an instance that stands lie in its frame: below all that is above that, or in another stack.
 use Rattle.std.proofs.Common.{◌≡◌, ◌≢◌, ◌⊎◌, inl, inr, sym, ap, ◌∙◌, ℕ, ◌+◌, ◌<◌, List, ◌++◌, length, Some, Bool, false, arith, length-append}
-use Rattle.b67_frames.proofs.Prelude.{nat_tests, ◌==◌, ◌&&◌, nat_le, numbered, EventState, block_numbered, PProgram, Scopes, event, Instance, Part, World, IsOwn, Word, Place, Code, is_from, get_within, place, simple_cells, made_base, Yields, Texts, control_words, some_same, Layout, HasEvent, block_controls, Around}
+use Rattle.b67_list.proofs.Lists.{get_within}
+use Rattle.b67_list.proofs.Truths.{and_false}
+use Rattle.b67_frames.proofs.Prelude.{nat_tests, ◌==◌, ◌&&◌, nat_le, numbered, EventState, block_numbered, PProgram, Scopes, event, Instance, Part, World, IsOwn, Word, Place, Code, is_from, place, simple_cells, made_base, Yields, Texts, control_words, some_same, Layout, HasEvent, block_controls, Around}
 use Rattle.algol_tree.specs.Scopes.{scopes_of}
 use Rattle.b67_frames.proofs.Completing.{made_many}
 use Rattle.b67_frames.proofs.ControlWords.{as_many_controls, controls_many}
 use Rattle.b67_frames.proofs.Lying.{Lies, lies_low, lies_around}
 use Rattle.b67_frames.proofs.MadeArrays.{as_many_values}
 use Rattle.b67_frames.proofs.Zeros.{cells_length}
-use Rattle.b67_frames.proofs.Subscripts.{and_false}
 
 -- the frame of an instance lies in another stack than this one
 abbrev pub IsElsewhere : Layout → ℕ → ℕ → Type 0

@@ -2,7 +2,8 @@
 use Rattle.b67_deeds.specs.declared.EventAct.TheVariants as event_act
 use Rattle.b67_deeds.specs.Deeds.{acts}
 use Rattle.std.proofs.Common.{◌≡◌, refl, ap, ◌∙◌, ℕ, ◌+◌, List, [], ◌∷◌, ◌++◌, length, take, drop, Option, Some, None, Bool, false}
-use Rattle.b67_frames.proofs.Prelude.{if◌then◌else◌, nat_eq, reverse, set_numbered, CriticalBlockExit, Cell, simple, event, array, named, reference, NamedCell, Word, Place, as_descriptor, Pcw, Registers, Code, Rows, words_of, closed_at, closed_from, Effect, gives, Image, with_rows, arrays_closed, caused_by, frame_left, is_critical, leave_base, leave_other, frame, Program, Change, done, event_deed, changed, does, effect_of, asked, answer, fault, registers, end_process, close_events, live_criticals, exit, raw, Simple, Wanted, control_words, AtOperator, raw_is, words_are, take-seam, value_tag, CellIs, CellsAre}
+use Rattle.b67_list.proofs.Lists.{take_front}
+use Rattle.b67_frames.proofs.Prelude.{if◌then◌else◌, nat_eq, reverse, set_numbered, CriticalBlockExit, Cell, simple, event, array, named, reference, NamedCell, Word, Place, as_descriptor, Pcw, Registers, Code, Rows, words_of, closed_at, closed_from, Effect, gives, Image, with_rows, arrays_closed, caused_by, frame_left, is_critical, leave_base, leave_other, frame, Program, Change, done, event_deed, changed, does, effect_of, asked, answer, fault, registers, end_process, close_events, live_criticals, exit, raw, Simple, Wanted, control_words, AtOperator, raw_is, words_are, value_tag, CellIs, CellsAre}
 use Rattle.b67_deeds.specs.declared.Letter.TheVariants as act
 use Rattle.b67_ops.specs.declared.Operator.TheVariants as ops
 use Rattle.b67_ops.specs.declared.PlainKind.TheVariants as kinds
@@ -94,7 +95,7 @@ module _ (code : Code) (here : AtOperator code (ops.Plain kinds.Exit)) (mark con
   cells_there : take r.cells (drop (0 + 2) (words_of img.stacks r.stack)) ≡ cells
   cells_there =
       ap (λ (ws : List Word). take r.cells (drop (0 + 2) ws)) whole
-      ∙ take-seam cells (reverse core.words) r.cells counted
+      ∙ take_front cells (reverse core.words) r.cells counted
 
   -- what it comes to: with a task, its event is caused
   exit_does : does p (exit r next) img ≡ gives (changed p (close_events r.stack 0 (registers left (caused_by core.registers.task (end_process r.stack done)))) (with_rows img rows))

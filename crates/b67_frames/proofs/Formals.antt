@@ -1,6 +1,7 @@
 -- The cells of the parameters of a procedure that is entered: values, and references that stand for something else.
 use Rattle.std.proofs.Common.{◌≡◌, refl, sym, ap, ◌∙◌, subst, ℕ, zero, suc, List, [], ◌∷◌, ◌++◌, Some}
-use Rattle.b67_frames.proofs.Prelude.{slice_get, map, Scopes, Parameter, Kind, Named, Given, valued, refers, names, Reference, NameCell, Cell, reference, simple, NamedCell, Part, Process, World, DeclaredArray, Shape, shape_of, Word, as_descriptor, Couple, Simple, Wanted, ShapeAgrees, IsVariable, IsDeclaredArray, IsDeclaredEvent, Context, AreTold, cell_named, actual as actual_held, passed as passed_held, Known, some_same, none_some, InReferred, Layout, named_from, ReferenceLeadsTo, LeadsToEvent, LeadsToVariable, Denotes, IsNamed, IsActual, AreKnown, CellIs, Refers, CellsAre}
+use Rattle.b67_list.proofs.Numbers.{none_some}
+use Rattle.b67_frames.proofs.Prelude.{slice_get, map, Scopes, Parameter, Kind, Named, Given, valued, refers, names, Reference, NameCell, Cell, reference, simple, NamedCell, Part, Process, World, DeclaredArray, Shape, shape_of, Word, as_descriptor, Couple, Simple, Wanted, ShapeAgrees, IsVariable, IsDeclaredArray, IsDeclaredEvent, Context, AreTold, cell_named, actual as actual_held, passed as passed_held, Known, some_same, InReferred, Layout, named_from, ReferenceLeadsTo, LeadsToEvent, LeadsToVariable, Denotes, IsNamed, IsActual, AreKnown, CellIs, Refers, CellsAre}
 use Rattle.algol_meaning.specs.Value as cells
 use Rattle.algol_meaning.specs.Choice.{given_cell, given_cells}
 use Rattle.algol_meaning.specs.Instances.{parameter_cells}

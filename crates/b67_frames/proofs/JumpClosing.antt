@@ -1,7 +1,8 @@
 -- The frames that GO TO leaves are closed one after another: the rows that their cells describe, and their events.
 use Rattle.std.proofs.Common.{◌≡◌, refl, sym, ap, ◌∙◌, ℕ, ◌+◌, List, [], ◌∷◌, ◌++◌, length, take, drop, append_assoc, length-append}
-use Rattle.b67_frames.proofs.Prelude.{Scopes, leave, World, Word, Rows, Event, closed_from, Passed, frames_left, Image, with_rows, with_events, frame_left, Change, changed, close_events, take-seam, Layout, ArraysAre}
-use Rattle.b67_rows.proofs.StackWords.{drop-seam}
+use Rattle.b67_list.proofs.Lists.{take_front}
+use Rattle.b67_frames.proofs.Prelude.{Scopes, leave, World, Word, Rows, Event, closed_from, Passed, frames_left, Image, with_rows, with_events, frame_left, Change, changed, close_events, Layout, ArraysAre}
+use Rattle.b67_rows.proofs.StackWords.{drop_seam}
 use Rattle.b67_frames.proofs.Closing.{IsClosed}
 
 -- the events after these frames of a stack are left, the newest first
@@ -22,8 +23,8 @@ pub cells_there : (stack lower : List Word) (mark control : Word) (cells back : 
 cells_there stack lower mark control cells back whole =
     ap (λ (ws : List Word). take (length cells) (drop (length lower + 2) ws))
     (whole ∙ append_assoc lower (mark ∷ control ∷ cells) back ∙ sym (append_assoc lower (mark ∷ control ∷ []) (cells ++ back)))
-    ∙ ap (take (length cells)) (drop-seam (lower ++ mark ∷ control ∷ []) (cells ++ back) (length lower + 2) (sym (length-append lower (mark ∷ control ∷ []))))
-    ∙ take-seam cells back (length cells) refl
+    ∙ ap (take (length cells)) (drop_seam (lower ++ mark ∷ control ∷ []) (cells ++ back) (length lower + 2) (sym (length-append lower (mark ∷ control ∷ []))))
+    ∙ take_front cells back (length cells) refl
 
 module _ (sc : Scopes) (lay : Layout) (p : ℕ) (stack : List Word) where
   -- What is left of an image of a world once these frames of that stack are closed, which are those of these instances and of evaluations: its

@@ -1,10 +1,11 @@
 -- GO TO: the entry of its intrinsic, which leaves all frames above that of a level and goes on in that one.
 use Rattle.std.proofs.Common.{◌≡◌, sym, ap, ◌∙◌, ℕ, ◌+◌, ◌-◌, ◌≤◌, List, [], ◌∷◌, ◌++◌, length, take, drop, Option, Some, Bool, true, false, Ok, arith, append_assoc, append-nil}
-use Rattle.b67_frames.proofs.Prelude.{nat_tests, if◌then◌else◌, nat_eq, reverse, pos, BadGoTo, CriticalBlockExit, Word, Place, Registers, GoTo, Code, Rows, words_of, with_stack, wholes_in, place, rebuilt, Effect, gives, faults, Passed, Passing, Target, passing, passed_by, frames_left, passed_frames, gone_to, Image, with_stacks, with_registers, segment_numbers, end_of_code, is_critical, if_not_critical, found, look_seen, display_at, frame, Program, Change, done, changed, effect_of, asked, answer, fault, registers, live_criticals, raw, see_found, Core, with_core, stack_of, AtOperator, CallsIntrinsic, words_are, take-seam}
+use Rattle.b67_list.proofs.Lists.{take_front}
+use Rattle.b67_frames.proofs.Prelude.{nat_tests, if◌then◌else◌, nat_eq, reverse, pos, BadGoTo, CriticalBlockExit, Word, Place, Registers, GoTo, Code, Rows, words_of, with_stack, wholes_in, place, rebuilt, Effect, gives, faults, Passed, Passing, Target, passing, passed_by, frames_left, passed_frames, gone_to, Image, with_stacks, with_registers, segment_numbers, end_of_code, is_critical, if_not_critical, found, look_seen, display_at, frame, Program, Change, done, changed, effect_of, asked, answer, fault, registers, live_criticals, raw, see_found, Core, with_core, stack_of, AtOperator, CallsIntrinsic, words_are}
 use Rattle.b67_ops.specs.declared.Operator.TheVariants as ops
 use Rattle.b67_ops.specs.declared.PlainKind.TheVariants as kinds
 use Rattle.b67_table.specs.Program.{cut}
-use Rattle.b67_rows.proofs.StackWords.{take-all, length-stack}
+use Rattle.b67_rows.proofs.StackWords.{take_all, length_stack}
 use Rattle.b67_frames.proofs.JumpClosing.{image_left}
 use Rattle.b67_frames.proofs.JumpSteps.{gone, with_display, with_passing, target_named}
 
@@ -80,12 +81,12 @@ module _ (code : Code) (here : AtOperator code (ops.Plain kinds.Entr)) (argument
   loaded : take r.s (drop 0 (words_of img.stacks r.stack)) ≡ stack_of core
   loaded =
       ap (take r.s) (words_are img p core has)
-      ∙ take-all (stack_of core) r.s (has.is.top ∙ sym (length-stack core.below core.words))
+      ∙ take_all (stack_of core) r.s (has.is.top ∙ sym (length_stack core.below core.words))
 
   cut_there : take (at + 2 + cells) (words_of img.stacks r.stack) ≡ stack_of new
   cut_there =
       ap (take (at + 2 + cells)) (words_are img p core has ∙ ap (λ (ws : List Word). ws ++ reverse core.words) e.below_is ∙ append_assoc front rest (reverse core.words))
-      ∙ take-seam front (rest ++ reverse core.words) (at + 2 + cells) e.long
+      ∙ take_front front (rest ++ reverse core.words) (at + 2 + cells) e.long
       ∙ sym (append-nil front)
 
   -- the last of it

@@ -1,6 +1,8 @@
 -- The frames of instances in the stacks, and the links between them.
 use Rattle.std.proofs.Common.{◌≡◌, refl, sym, ap, ◌∙◌, subst, ℕ, zero, suc, ◌+◌, ◌-◌, ◌<◌, ◌≤◌, List, [], ◌∷◌, ◌++◌, length, Some, arith, append_assoc, length-append}
-use Rattle.b67_frames.proofs.Prelude.{slice_get, reverse, numbered, Block, block_numbered, around, level_of, PProgram, Scopes, Instance, Part, World, instance_at, or_no_instance, ancestor, IsStanding, Word, Place, as_mscw, as_rcw, place_at, Code, Stacks, words_of, word_at, place, Image, read_as, Texts, Core, HasCore, some_same, none_some, IsEntered, Links, shown, shown_below, length_around, words_are, get-seam, get-front, Layout, IsChained, home_of, FrameIsPlaced, outermost, inside, ArePlaced, Frame, Owned}
+use Rattle.b67_list.proofs.Lists.{get_front}
+use Rattle.b67_list.proofs.Numbers.{none_some}
+use Rattle.b67_frames.proofs.Prelude.{slice_get, reverse, numbered, Block, block_numbered, around, level_of, PProgram, Scopes, Instance, Part, World, instance_at, or_no_instance, ancestor, IsStanding, Word, Place, as_mscw, as_rcw, place_at, Code, Stacks, words_of, word_at, place, Image, read_as, Texts, Core, HasCore, some_same, IsEntered, Links, shown, shown_below, length_around, words_are, get_seam, Layout, IsChained, home_of, FrameIsPlaced, outermost, inside, ArePlaced, Frame, Owned}
 use Rattle.algol_tree.specs.Scopes.{scopes_of}
 use Rattle.b67_rows.proofs.Displays.{root, onward, shown_top}
 use Rattle.b67_frames.proofs.Lying.{Lies}
@@ -110,14 +112,14 @@ module _ (sc : Scopes) (w : World) (lay : Layout) (stacks : Stacks) where
 
 -- what begins with words begins with those before them
 pub begins_front : (stacks : Stacks) (p : ℕ) (front back : List Word) → Begins_with stacks p (front ++ back) → Begins_with stacks p front
-begins_front stacks p front back b n x e = b n x (get-front front back n x e)
+begins_front stacks p front back b n x e = b n x (get_front front back n x e)
 
 -- so does the stack of a process that has a core
 pub begins_core : (img : Image) (p : ℕ) (core : Core) → HasCore img p core → Begins_with img.stacks p core.below
 begins_core img p core has n x e =
     ap (λ (k : ℕ). slice_get (words_of img.stacks k) n) (sym has.own)
     ∙ ap (λ (ws : List Word). slice_get ws n) (words_are img p core has)
-    ∙ get-front core.below (reverse core.words) n x e
+    ∙ get_front core.below (reverse core.words) n x e
 
 module _ (tree : PProgram) (code : Code) (texts : Texts) (w : World) (lay : Layout) (p : ℕ) where
   abbrev sc : Scopes
@@ -126,12 +128,12 @@ module _ (tree : PProgram) (code : Code) (texts : Texts) (w : World) (lay : Layo
   -- the two first words of the frame of a part, among these that end with it
   module _ (part : Part) (outer : List Part) (words : List Word) (f : Frame tree code texts w lay p part outer words) where
     pub mark_lies : slice_get words (length f.lower) ≡ Some f.mark
-    mark_lies = ap (λ (ws : List Word). slice_get ws (length f.lower)) f.words_are ∙ get-seam f.lower f.mark (f.control ∷ f.cells) (length f.lower) refl
+    mark_lies = ap (λ (ws : List Word). slice_get ws (length f.lower)) f.words_are ∙ get_seam f.lower f.mark (f.control ∷ f.cells) (length f.lower) refl
 
     pub control_lies : slice_get words (length f.lower + 1) ≡ Some f.control
     control_lies =
         ap (λ (ws : List Word). slice_get ws (length f.lower + 1)) (f.words_are ∙ sym (append_assoc f.lower (f.mark ∷ []) (f.control ∷ f.cells)))
-        ∙ get-seam (f.lower ++ f.mark ∷ []) f.control f.cells (length f.lower + 1) (sym (length-append f.lower (f.mark ∷ [])))
+        ∙ get_seam (f.lower ++ f.mark ∷ []) f.control f.cells (length f.lower + 1) (sym (length-append f.lower (f.mark ∷ [])))
 
   module _ (stacks : Stacks) where
     -- an own frame, the two first words of which are there
@@ -163,7 +165,7 @@ module _ (tree : PProgram) (code : Code) (texts : Texts) (w : World) (lay : Layo
         (there (length l.frame.lower + 1) l.frame.control (omega (arith, low)) (in_words (length l.frame.lower + 1) l.frame.control (control_lies l.part l.outer l.front l.frame))))
       where
         in_words : (n : ℕ) (x : Word) → slice_get l.front n ≡ Some x → slice_get words n ≡ Some x
-        in_words n x e = ap (λ (ws : List Word). slice_get ws n) l.words_are ∙ get-front l.front l.rest n x e
+        in_words n x e = ap (λ (ws : List Word). slice_get ws n) l.words_are ∙ get_front l.front l.rest n x e
 
     -- the frame of a part, where these words begin the stack
     module _ (part : Part) (outer : List Part) (words : List Word) (f : Frame tree code texts w lay p part outer words) (b : Begins_with stacks p words) where

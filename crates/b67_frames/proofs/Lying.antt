@@ -1,6 +1,8 @@
 -- Where the frames of a process's parts lie in its stack.
 use Rattle.std.proofs.Common.{◌≡◌, ◌⊎◌, inl, inr, refl, sym, ap, ◌∙◌, subst, ℕ, suc, ◌+◌, ◌<◌, ◌≤◌, List, [], ◌∷◌, ◌++◌, length, Some, true, false, arith, append_assoc, append-nil, length-append, Bool, Option}
-use Rattle.b67_frames.proofs.Prelude.{if◌then◌else◌, slice_get, reverse, numbered, block_numbered, level_of, PProgram, Scopes, Ask, ask, resume, is_evaluation, Rest, Answer, NamedCell, Instance, Part, World, instance_at, or_no_instance, all_to_make, segment_of, IsStanding, IsOnPath, IsOwn, newest_own, skeleton, Word, Place, Fits-as_rcw, Code, place, Simple, simple_cells, Yields, Texts, Core, Known, SlotsAre, none_some, tokens_around, get-front, Allotted, Layout, AreMade, Denotes, AreKnown, Refers, most_around, IsInReach, Framed, Frame, FrameStands, Waits, Around, Owned, of_own, of_lent, run_level, level_of_part, IsOfExpression, Lent}
+use Rattle.b67_list.proofs.Lists.{get_front}
+use Rattle.b67_list.proofs.Numbers.{none_some}
+use Rattle.b67_frames.proofs.Prelude.{if◌then◌else◌, slice_get, reverse, numbered, block_numbered, level_of, PProgram, Scopes, Ask, ask, resume, is_evaluation, Rest, Answer, NamedCell, Instance, Part, World, instance_at, or_no_instance, all_to_make, segment_of, IsStanding, IsOnPath, IsOwn, newest_own, skeleton, Word, Place, Fits_as_rcw, Code, place, Simple, simple_cells, Yields, Texts, Core, Known, SlotsAre, tokens_around, Allotted, Layout, AreMade, Denotes, AreKnown, Refers, most_around, IsInReach, Framed, Frame, FrameStands, Waits, Around, Owned, of_own, of_lent, run_level, level_of_part, IsOfExpression, Lent}
 use Rattle.std.specs.Prelude.{◌*◌}
 use Rattle.algol_tree.specs.Scopes.{scopes_of}
 use Rattle.algol_paths.specs.Laws.{KeepsToText}
@@ -88,7 +90,7 @@ module _ (tree : PProgram) (code : Code) (texts : Texts) (w : World) (lay : Layo
   runs_low part outer words f =
       let same : level_of_part tree code texts w lay p part ≡ run_level (is_evaluation part.purpose) (level_of (block_numbered (scopes_of tree).blocks f.instance.block)) =
       ap (λ (o : Option Instance). run_level (is_evaluation part.purpose) (level_of (block_numbered (scopes_of tree).blocks ((or_no_instance o).block)))) f.is in
-      omega (arith, same, f.level_is, (Fits-as_rcw f.control f.control_is).1.1.1.1.1.0)
+      omega (arith, same, f.level_is, (Fits_as_rcw f.control f.control_is).1.1.1.1.1.0)
 
   -- that has still the same to make, and stays an expression where it was one
   pub shape_on : (part : Part) (outer : List Part) (at : ℕ) (mark control : Word) (cells : List Word) (home : Place) (gives : Yields) (rest : Rest) → all_to_make part.rest ≡ all_to_make rest →
@@ -228,13 +230,6 @@ module _ (tree : PProgram) (code : Code) (texts : Texts) (w : World) (lay : Layo
           by_shape (of_own o is) = own_in part outer (length f.lower) f.mark f.control f.cells o low
           by_shape (of_lent l) = path_in (newest_own outer) part.instance (lent_in l) l.stands
 
-    pub around_in : (parts : List Part) (lower : List Word) (mark control : Word) (wanted : Yields) → Around tree code texts w lay p parts lower mark control wanted → length lower ≤ limit → (i : ℕ) → IsOfPart parts i → In i
-    around_in [] lower mark control wanted a low i one = absurd one
-    around_in (part ∷ outer) lower mark control wanted a low i (inl same) =
-        subst In same (part_in part outer a.0.below a.0.frame a.1 (frame_low part outer lower mark control wanted limit low a.0))
-    around_in (part ∷ outer) lower mark control wanted a low i (inr later) =
-        around_in outer a.0.frame.lower a.0.frame.mark a.0.frame.control a.0.frame.gives a.1 (let lowest : length a.0.frame.lower < limit = frame_low part outer lower mark control wanted limit low a.0 in omega (arith, lowest)) i later
-
   module _ (facts : HasFacts w) where
     -- an own instance stands
     pub owned_stands : (part : Part) (outer : List Part) (at : ℕ) (mark control : Word) (cells : List Word) → Owned tree code texts w lay p part outer at mark control cells → IsStanding w part.instance
@@ -249,10 +244,6 @@ module _ (tree : PProgram) (code : Code) (texts : Texts) (w : World) (lay : Layo
 
       path_stands : (i j : ℕ) → IsStanding w i → IsOnPath w i j → IsStanding w j
       path_stands i j st path = facts.on_path i j st path
-
-      -- so do the instance of a frame's part, and the newest own one at or below it
-      pub top_stands : IsStanding w (newest_own (part ∷ outer))
-      top_stands = top_in (λ i. IsStanding w i) limit facts.nobody own_stands path_stands part outer words f a (omega arith)
 
       pub part_stands : IsStanding w part.instance
       part_stands = part_in (λ i. IsStanding w i) limit facts.nobody own_stands path_stands part outer words f a (omega arith)
@@ -327,7 +318,7 @@ module _ (tree : PProgram) (code : Code) (texts : Texts) (w w' : World) (lay lay
       (c : NamedCell) × (word : Word) × (slice_get o.framed.simple k ≡ Some c) × (slice_get o.framed.values k ≡ Some word) × Denotes sc w' lay' (IsStanding w') s.wanted c.cell word
   own_formals part outer at mark control cells o low k s there refers =
       let g = o.framed.formals k s there refers in
-      let among : slice_get o.framed.instance.cells k ≡ Some g.0 = ap (λ (cs : List NamedCell). slice_get cs k) o.framed.has ∙ get-front o.framed.simple o.framed.arrays k g.0 g.2 in (
+      let among : slice_get o.framed.instance.cells k ≡ Some g.0 = ap (λ (cs : List NamedCell). slice_get cs k) o.framed.has ∙ get_front o.framed.simple o.framed.arrays k g.0 g.2 in (
         g.0,
         g.1,
         g.2,

@@ -1,14 +1,11 @@
 -- The cells of simple variables, and the arrays and events that are made after them: which of them a name means.
 use Rattle.std.proofs.Common.{◌≡◌, refl, sym, ap, ◌∙◌, subst, ℕ, suc, ◌+◌, ◌<◌, ◌≤◌, List, [], ◌∷◌, ◌++◌, length, Some, None, Bool, true, false, arith}
-use Rattle.b67_frames.proofs.Prelude.{if◌then◌else◌, slice_get, slice_set, map, EventState, same_name, elements_of, Bounds, ArrayCell, Cell, simple, event, array, named, reference, NamedCell, cell_in, cells_with, DeclaredArray, Made, an_array, lows_of, an_event, Word, Simple, found_from, made_from, FoundMade, Wanted, some_same, none_some, Allotted, DescriptorIs, AreSized, IsMadeSo, AreMade, CellIs, CellsAre}
+use Rattle.b67_list.proofs.Numbers.{none_some}
+use Rattle.b67_frames.proofs.Prelude.{if◌then◌else◌, slice_get, slice_set, map, EventState, same_name, elements_of, Bounds, ArrayCell, Cell, simple, event, array, named, reference, NamedCell, cell_in, cells_with, DeclaredArray, Made, an_array, lows_of, an_event, Word, Simple, found_from, made_from, FoundMade, Wanted, some_same, Allotted, DescriptorIs, AreSized, IsMadeSo, AreMade, CellIs, CellsAre}
 use Rattle.b67_templates.specs.Cells as wants
 use Rattle.b67_templates.specs.Cells.{made_name}
 
 -- ---- lists
-
-pub none_left : {A : Type 0} (xs : List A) → length xs ≡ 0 → xs ≡ []
-none_left [] e = refl
-none_left (x ∷ xs) e = absurd (omega (arith, e))
 
 -- ---- simple cells
 

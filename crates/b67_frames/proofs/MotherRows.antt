@@ -1,9 +1,12 @@
 -- The rows of a mother: each is opened at a free number, and the mother's row holds their descriptors.
 use Rattle.std.proofs.Common.{◌≡◌, ◌≢◌, refl, sym, ap, ◌∙◌, ℕ, zero, suc, ◌+◌, ◌*◌, ◌<◌, List, [], ◌∷◌, ◌++◌, length, set, Some, None, Bool, true, false, arith, append_assoc, length-append}
-use Rattle.b67_frames.proofs.Prelude.{length-replicate, map, pos, slice_get, Word, operand, least_free, Row, Rows, row_at, zero_row, live_words, counted_words, array_word, some_same, none_some, open_rows}
+use Rattle.b67_list.proofs.Numbers.{none_some}
+use Rattle.b67_store.proofs.StoreLaws.{count_written}
+use Rattle.b67_frames.proofs.Prelude.{length-replicate, map, pos, slice_get, Word, operand, least_free, Row, Rows, row_at, zero_row, live_words, counted_words, array_word, some_same, open_rows}
 use Rattle.std.proofs.lemmas.List.{set_at}
-use Rattle.b67_frames.proofs.OpenRows.{least_low, row_opened, opened_is, opened_keeps, least_is_free, opened_counts, opened_many, written_is, written_keeps, written_counts, written_many}
+use Rattle.b67_frames.proofs.OpenRows.{least_low, row_opened, opened_is, opened_keeps, least_is_free, opened_counts, opened_many}
 use Rattle.b67_frames.proofs.ArrayRows.{part_rows, parts_rows, parts_of}
+use Rattle.b67_frames.proofs.StoredRows.{written_here, written_open, written_other}
 
 -- a row that is open is not one that is free
 pub open_apart : (rows : Rows) (m n : ℕ) (row : Row) → row_at rows m ≡ Some row → row_at rows n ≡ None → m ≢ n
@@ -41,22 +44,22 @@ module _ (size mother at : ℕ) (rows : Rows) (row : Row) (is : row_at rows moth
 
   -- the mother's row stays open
   pub mother_written : row_at (part_rows size mother at rows) mother ≡ Some (record row { words = set row.words at word })
-  mother_written = written_is between mother at word row (opened_keeps rows (zero_row size true) mother mother_apart ∙ is)
+  mother_written = written_here between mother at word row (opened_keeps rows (zero_row size true) mother mother_apart ∙ is)
 
   first_there : row_at (part_rows size mother at rows) first ≡ Some (zero_row size true)
-  first_there = written_keeps between mother at word first (λ e. mother_apart (sym e)) ∙ opened_is rows (zero_row size true)
+  first_there = written_other between mother at word first (λ e. mother_apart (sym e)) ∙ opened_is rows (zero_row size true)
 
   others_same : (n : ℕ) → n ≢ mother → n ≢ first → row_at (part_rows size mother at rows) n ≡ row_at rows n
-  others_same n apart other = written_keeps between mother at word n apart ∙ opened_keeps rows (zero_row size true) n other
+  others_same n apart other = written_other between mother at word n apart ∙ opened_keeps rows (zero_row size true) n other
 
   one_counted : counted_words (part_rows size mother at rows) ≡ counted_words rows + size
   one_counted =
-      written_counts between mother at word
+      count_written between mother at word
       ∙ opened_counts rows (zero_row size true)
       ∙ ap (λ (n : ℕ). counted_words rows + n) (zeros_count size)
 
   one_opened : open_rows (part_rows size mother at rows) ≡ open_rows rows + 1
-  one_opened = written_many between mother at word ∙ opened_many rows (zero_row size true)
+  one_opened = written_open between mother at word ∙ opened_many rows (zero_row size true)
 
   module _ (after : Rows) (parts : List ℕ) (rest : ArePartsOf size mother (part_rows size mother at rows) after parts) where
     kept_all : (n : ℕ) (r : Row) → n ≢ mother → row_at rows n ≡ Some r → row_at after n ≡ Some r

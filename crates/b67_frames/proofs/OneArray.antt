@@ -1,6 +1,8 @@
 -- One array is made: its rows, which were free, hold its elements, and its descriptor names them.
 use Rattle.std.proofs.Common.{◌≡◌, ◌≢◌, refl, sym, ap, ◌∙◌, ℕ, zero, suc, ◌+◌, ◌*◌, ◌<◌, ◌≤◌, List, [], ◌∷◌, length, Option, Some, None, true, false, arith}
-use Rattle.b67_frames.proofs.Prelude.{length-replicate, pos, slice_get, replicate, Kind, size_of, elements_of, Value, initial_value, Bounds, ArrayCell, Word, least_free, Row, Rows, row_at, row_limit, zero_row, counted_words, get_within, HasKind, ValueIs, some_same, none_some, Allotted, row_numbers_of, DescriptorIs, HoldElements, open_rows, rows_of_bounds}
+use Rattle.b67_list.proofs.Lists.{get_within}
+use Rattle.b67_list.proofs.Numbers.{none_some}
+use Rattle.b67_frames.proofs.Prelude.{length-replicate, pos, slice_get, replicate, Kind, size_of, elements_of, Value, initial_value, Bounds, ArrayCell, Word, least_free, Row, Rows, row_at, row_limit, zero_row, counted_words, HasKind, ValueIs, some_same, Allotted, row_numbers_of, DescriptorIs, HoldElements, open_rows, rows_of_bounds}
 use Rattle.std.proofs.lemmas.Nat.{mul-add-lt}
 use Rattle.b67_word.specs.Word as words
 use Rattle.b67_frames.specs.Arrays.{numbers_after}

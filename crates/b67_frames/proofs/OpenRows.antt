@@ -1,8 +1,8 @@
 -- A row that is opened, and a word that is written into a row.
-use Rattle.std.proofs.Common.{◌≡◌, ◌≢◌, refl, ap, ◌∙◌, ℕ, zero, suc, ◌+◌, ◌≤◌, [], ◌∷◌, set, Option, Some, None, IsSome, arith}
-use Rattle.b67_frames.proofs.Prelude.{Word, changed_others, counts, least_free, Row, Rows, row_at, row_with, with_row_word, live_words, counted_words, open_rows}
+use Rattle.std.proofs.Common.{◌≡◌, ◌≢◌, refl, ℕ, zero, suc, ◌+◌, ◌≤◌, [], ◌∷◌, Some, None, arith}
+use Rattle.b67_frames.proofs.Prelude.{counts, least_free, Row, Rows, row_at, live_words, counted_words, open_rows}
 use Rattle.b67_store.specs.Store.{opened_at}
-use Rattle.b67_store.proofs.StoreLaws.{opened_here, opened_others, changed_here, free_here}
+use Rattle.b67_store.proofs.StoreLaws.{opened_here, opened_others, free_here}
 
 -- ---- a row is opened
 
@@ -41,30 +41,3 @@ module _ (rows : Rows) (row : Row) where
   opened_many = open_more rows (least_free rows) row (free_here rows)
 
 -- ---- a word is written
-
-same_open : (rows : Rows) (n at : ℕ) (word : Word) → open_rows (set rows n (row_with (row_at rows n) at word)) ≡ open_rows rows
-same_open [] n at word = refl
-same_open (None ∷ rows) zero at word = refl
-same_open (Some row ∷ rows) zero at word = refl
-same_open (None ∷ rows) (suc n) at word = same_open rows n at word
-same_open (Some row ∷ rows) (suc n) at word = omega (arith, same_open rows n at word)
-
-written_at : (rows : Rows) (n at : ℕ) (word : Word) (row : Row) → row_at rows n ≡ Some row → row_at (set rows n (row_with (row_at rows n) at word)) n ≡ Some (record row { words = set row.words at word })
-written_at rows n at word row there =
-    ap (λ (o : Option Row). row_at (set rows n (row_with o at word)) n) there ∙ changed_here rows n (record row { words = set row.words at word }) (is_some there)
-  where
-    is_some : {o : Option Row} → o ≡ Some row → IsSome o
-    is_some e = rw e refl
-
-module _ (rows : Rows) (n at : ℕ) (word : Word) where
-  pub written_is : (row : Row) → row_at rows n ≡ Some row → row_at (with_row_word rows n at word) n ≡ Some (record row { words = set row.words at word })
-  written_is row there = written_at rows n at word row there
-
-  pub written_keeps : (k : ℕ) → k ≢ n → row_at (with_row_word rows n at word) k ≡ row_at rows k
-  written_keeps k other = changed_others rows n k (row_with (row_at rows n) at word) other
-
-  pub written_counts : counted_words (with_row_word rows n at word) ≡ counted_words rows
-  written_counts = counts.written rows n at word
-
-  pub written_many : open_rows (with_row_word rows n at word) ≡ open_rows rows
-  written_many = same_open rows n at word

@@ -1,9 +1,10 @@
 -- The cells of an instance that stands: its simple cells first, and then the arrays that it has made, with the words of all of them.
 use Rattle.std.proofs.Common.{◌≡◌, sym, ap, ◌∙◌, subst, ℕ, ◌+◌, ◌<◌, List, [], ◌++◌, length, Some, None, false, arith, append-nil, length-append}
-use Rattle.b67_frames.proofs.Prelude.{slice_get, slice_set, map, numbered, block_numbered, Scopes, elements_of, Bounds, ArrayCell, Cell, array, NamedCell, Instance, Part, World, instance_at, or_no_instance, cell_in, cells_with, DeclaredArray, Made, an_array, lows_of, Word, Pcw, simple_cells, found_from, made_of, made_from, control_words, some_same, get-front, get-behind, Allotted, Layout, DescriptorIs, AreSized, AreMade, HasArray, IsArrayOf, CellsAre, IsComplete, Framed}
+use Rattle.b67_list.proofs.Lists.{empty_if_none, get_front}
+use Rattle.b67_frames.proofs.Prelude.{slice_get, slice_set, map, numbered, block_numbered, Scopes, elements_of, Bounds, ArrayCell, Cell, array, NamedCell, Instance, Part, World, instance_at, or_no_instance, cell_in, cells_with, DeclaredArray, Made, an_array, lows_of, Word, Pcw, simple_cells, found_from, made_of, made_from, control_words, some_same, get_behind, Allotted, Layout, DescriptorIs, AreSized, AreMade, HasArray, IsArrayOf, CellsAre, IsComplete, Framed}
 use Rattle.b67_frames.proofs.Completing.{made_many}
 use Rattle.b67_frames.proofs.ControlWords.{as_many_controls}
-use Rattle.b67_frames.proofs.MadeArrays.{none_left, as_many_values, IsPast, past_unfound, past_values, low_number, MadeThere, made_array, made_low}
+use Rattle.b67_frames.proofs.MadeArrays.{as_many_values, IsPast, past_unfound, past_values, low_number, MadeThere, made_array, made_low}
 use Rattle.b67_frames.proofs.Zeros.{cells_length}
 
 module _ (sc : Scopes) (w : World) (lay : Layout) where
@@ -94,10 +95,10 @@ module _ (sc : Scopes) (w : World) (lay : Layout) where
           stands = own.stands;
           declares =
               ap (λ (ds : List Made). slice_get ds number) own.order
-              ∙ get-front own.declared own.later number (an_array declared) (at_number own.declared (an_array declared) m.declared_lies);
+              ∙ get_front own.declared own.later number (an_array declared) (at_number own.declared (an_array declared) m.declared_lies);
           has =
               ap (λ (cells : List NamedCell). slice_get cells (length (simple_cells sc (block_numbered sc.blocks x.block)) + number)) own.has
-              ∙ get-behind own.simple own.arrays number (length (simple_cells sc (block_numbered sc.blocks x.block)) + number) (ap (λ (n : ℕ). n + number) (sym (cells_length (simple_cells sc (block_numbered sc.blocks x.block)) own.simple own.values own.simple_are)))
+              ∙ get_behind own.simple own.arrays number (length (simple_cells sc (block_numbered sc.blocks x.block)) + number) (ap (λ (n : ℕ). n + number) (sym (cells_length (simple_cells sc (block_numbered sc.blocks x.block)) own.simple own.values own.simple_are)))
               ∙ at_number own.arrays (record { name = declared.name; cell = array m.cell }) m.lies;
           allotted = at_number (lay.rows i) m.allotted m.row_lies;
         };
@@ -124,7 +125,7 @@ module _ (sc : Scopes) (w : World) (lay : Layout) where
     -- nothing is to be made any more where the instance is complete
     pub none_later : IsComplete sc w lay i → own.later ≡ []
     none_later complete =
-        none_left own.later
+        empty_if_none own.later
         (omega (
           arith,
           many,
@@ -192,10 +193,10 @@ module _ (sc : Scopes) (w : World) (lay : Layout) where
     pub descriptor_lies : (name : List ℕ) (number : ℕ) (declared : DeclaredArray) (found : OwnArray i x own name number declared) (pcws : List Pcw) →
         slice_get (own.values ++ (control_words pcws ++ own.descriptors)) (length (simple_cells sc (block_numbered sc.blocks x.block)) + length pcws + number) ≡ Some found.word
     descriptor_lies name number declared found pcws =
-        get-behind own.values (control_words pcws ++ own.descriptors) (length pcws + number) (length (simple_cells sc (block_numbered sc.blocks x.block)) + length pcws + number)
+        get_behind own.values (control_words pcws ++ own.descriptors) (length pcws + number) (length (simple_cells sc (block_numbered sc.blocks x.block)) + length pcws + number)
         (omega (
           arith,
           as_many_values (simple_cells sc (block_numbered sc.blocks x.block)) own.simple own.values own.simple_are,
         ))
-        ∙ get-behind (control_words pcws) own.descriptors number (length pcws + number) (ap (λ (n : ℕ). n + number) (sym (as_many_controls pcws)))
+        ∙ get_behind (control_words pcws) own.descriptors number (length pcws + number) (ap (λ (n : ℕ). n + number) (sym (as_many_controls pcws)))
         ∙ found.lies

@@ -1,6 +1,7 @@
 -- The events that an instance has made: their cells, and their words among those of its frame.
 use Rattle.std.proofs.Common.{◌≡◌, sym, ap, ◌∙◌, ℕ, ◌+◌, ◌<◌, List, [], ◌++◌, length, Some, None, arith, append-nil}
-use Rattle.b67_frames.proofs.Prelude.{slice_get, slice_set, EventState, block_numbered, Scopes, Cell, event, NamedCell, Instance, World, instance_at, or_no_instance, cell_in, cells_with, Made, an_event, Word, event_word, Pcw, simple_cells, found_from, made_of, made_from, control_words, get-front, get-behind, Layout}
+use Rattle.b67_list.proofs.Lists.{get_front}
+use Rattle.b67_frames.proofs.Prelude.{slice_get, slice_set, EventState, block_numbered, Scopes, Cell, event, NamedCell, Instance, World, instance_at, or_no_instance, cell_in, cells_with, Made, an_event, Word, event_word, Pcw, simple_cells, found_from, made_of, made_from, control_words, get_behind, Layout}
 use Rattle.b67_frames.specs.Arrays.{IsEventOf}
 use Rattle.b67_frames.proofs.ControlWords.{as_many_controls}
 use Rattle.b67_frames.proofs.MadeArrays.{as_many_values, IsPast, past_unfound, past_events, low_made, same_cell, FoundThere, found_there, made_low}
@@ -36,10 +37,10 @@ module _ (sc : Scopes) (w : World) (lay : Layout) where
         means = ap (λ (cells : List NamedCell). cell_in cells name) own.has ∙ past.found own.arrays ∙ m.is ∙ m.so.is;
         declares =
             ap (λ (ds : List Made). slice_get ds number) own.order
-            ∙ get-front own.declared own.later number (an_event name) (at_number own.declared (an_event name) m.declared_lies);
+            ∙ get_front own.declared own.later number (an_event name) (at_number own.declared (an_event name) m.declared_lies);
         has =
             ap (λ (cells : List NamedCell). slice_get cells (length (simple_cells sc (block_numbered sc.blocks x.block)) + number)) own.has
-            ∙ get-behind own.simple own.arrays number (length (simple_cells sc (block_numbered sc.blocks x.block)) + number)
+            ∙ get_behind own.simple own.arrays number (length (simple_cells sc (block_numbered sc.blocks x.block)) + number)
             (ap (λ (n : ℕ). n + number) (sym (cells_length (simple_cells sc (block_numbered sc.blocks x.block)) own.simple own.values own.simple_are)))
             ∙ at_number own.arrays m.c m.lies
             ∙ ap (λ (c : NamedCell). Some c) is_cell;
@@ -102,7 +103,7 @@ module _ (sc : Scopes) (w : World) (lay : Layout) where
     pub event_lies : (number : ℕ) (found : OwnEvent i x own name number) (pcws : List Pcw) →
         slice_get (own.values ++ (control_words pcws ++ own.descriptors)) (length (simple_cells sc (block_numbered sc.blocks x.block)) + length pcws + number) ≡ Some (event_word (record {}))
     event_lies number found pcws =
-        get-behind own.values (control_words pcws ++ own.descriptors) (length pcws + number) (length (simple_cells sc (block_numbered sc.blocks x.block)) + length pcws + number)
+        get_behind own.values (control_words pcws ++ own.descriptors) (length pcws + number) (length (simple_cells sc (block_numbered sc.blocks x.block)) + length pcws + number)
         (omega (arith, as_many_values (simple_cells sc (block_numbered sc.blocks x.block)) own.simple own.values own.simple_are))
-        ∙ get-behind (control_words pcws) own.descriptors number (length pcws + number) (ap (λ (n : ℕ). n + number) (sym (as_many_controls pcws)))
+        ∙ get_behind (control_words pcws) own.descriptors number (length pcws + number) (ap (λ (n : ℕ). n + number) (sym (as_many_controls pcws)))
         ∙ found.lies

@@ -1,6 +1,9 @@
 -- Paths stay where each process keeps its stack but for its newest instances, and depends on the instance on which it depended.
 use Rattle.std.proofs.Common.{◌≡◌, ◌≢◌, ◌⊎◌, inl, inr, refl, sym, ap, ◌∙◌, subst, ℕ, zero, suc, List, [], ◌∷◌, ◌++◌, Option, Some, false}
-use Rattle.b67_frames.proofs.Prelude.{numbered, set_numbered, own_instances, Process, World, below_in, AllPairs, numbered_forth, IsInSkeleton, here, down, IsStanding, IsOnPath, skeleton, some_same, none_some, same_or_not, numbered_set, numbered_other, get-front}
+use Rattle.b67_list.proofs.Lists.{get_front}
+use Rattle.b67_list.proofs.Numbered.{numbered_set}
+use Rattle.b67_list.proofs.Numbers.{none_some}
+use Rattle.b67_frames.proofs.Prelude.{numbered, set_numbered, own_instances, Process, World, below_in, AllPairs, numbered_forth, IsInSkeleton, here, down, IsStanding, IsOnPath, skeleton, some_same, same_or_not, numbered_other}
 use Rattle.algol_standing.specs.Skeleton.{Stack, NextIn, SkeletonNext}
 use Rattle.algol_standing.specs.Worlds.{stack_of}
 use Rattle.algol_standing.proofs.Pairs.{stack_forth, stack_back}
@@ -51,7 +54,7 @@ alike_self xs k q e = (q, e, (refl, refl))
 -- more may come after them
 pub alike_front : (xs more : List Process) → HaveAlike xs (xs ++ more)
 alike_front xs more zero q e = none_some e
-alike_front xs more (suc k) q e = (q, get-front xs more k q e, (refl, refl))
+alike_front xs more (suc k) q e = (q, get_front xs more k q e, (refl, refl))
 
 pub each_alike : (w w' : World) → HaveAlike w.processes w'.processes → (k : ℕ) (q : Process) → numbered w.processes k ≡ Some q → KeepsStack w' k q
 each_alike w w' alike k q e = let o = alike k q e in keeps_all w' k q o.0 o.1 (o.2).0 (o.2).1

@@ -33,7 +33,7 @@ pub use Rattle.algol_standing.specs.Skeleton.{IsInSkeleton, down, here}
 pub use Rattle.algol_standing.specs.Worlds.{IsOnPath, IsOwn, IsStanding, newest_own, skeleton}
 pub use Rattle.b67_word.specs.Word.{Word, operand}
 pub use Rattle.b67_word.specs.declared.Place.{Place}
-pub use Rattle.b67_control.proofs.ControlLaws.{Fits-as_rcw}
+pub use Rattle.b67_control.proofs.ControlLaws.{Fits_as_rcw}
 pub use Rattle.b67_control.specs.Control.{as_descriptor, as_irw, as_mscw, as_rcw, as_sirw, event_word, pcw_word}
 pub use Rattle.b67_control.specs.Display.{place_at}
 pub use Rattle.b67_control.specs.declared.Descriptor.{Descriptor}
@@ -51,7 +51,6 @@ pub use Rattle.b67_store.proofs.StoreLaws.{changed_others, counts}
 pub use Rattle.b67_store.specs.Store.{Row, Rows, Stacks, closed_at, counted_words, least_free, live_words, row_at, row_limit, row_with, with_row_word, with_stack, word_at, words_of, zero_row}
 pub use Rattle.b67_events.proofs.EventLaws.{one_event}
 pub use Rattle.b67_events.specs.Events.{Event, closed_from, event_at, event_opened, is_from, is_open}
-pub use Rattle.b67_table.proofs.Lists.{get_within}
 pub use Rattle.b67_table.specs.Arguments.{event_of, finished_at, if_chained, wholes_in}
 pub use Rattle.b67_table.specs.Arrays.{Extents, array_word, arrays_made, if_held, one, two}
 pub use Rattle.b67_table.specs.Beginning.{system_stack}
@@ -86,21 +85,21 @@ pub use Rattle.b67_cores.proofs.Moving.{slots_length}
 pub use Rattle.b67_cores.specs.Cores.{Core, HasCore, stack_of, with_core}
 pub use Rattle.b67_cores.specs.Slots.{IsKnown, Known, SlotsAre, ValueIs}
 pub use Rattle.b67_cores.specs.Stretches.{control_words}
-pub use Rattle.b67_faithful.proofs.Contradictions.{none_some, some_same}
+pub use Rattle.b67_faithful.proofs.Contradictions.{some_same}
 pub use Rattle.b67_faithful.specs.Weight.{tokens_around}
 pub use Rattle.b67_rows.proofs.AskedEntries.{InReferred}
 pub use Rattle.b67_rows.proofs.AtOperator.{AtOperator}
 pub use Rattle.b67_rows.proofs.Displays.{IsEntered, Links, shown, shown_below}
 pub use Rattle.b67_rows.proofs.Growing.{numbered_last}
 pub use Rattle.b67_rows.proofs.IntrinsicRows.{CallsIntrinsic, chained_asked, chained_is, cut_words, entered, entered_asked}
-pub use Rattle.b67_rows.proofs.Numbers.{get_set, most_or_more, numbered_other, numbered_set, same_or_not}
+pub use Rattle.b67_rows.proofs.Numbers.{get_set, most_or_more, numbered_other, same_or_not}
 pub use Rattle.b67_rows.proofs.Parents.{length_around}
 pub use Rattle.b67_rows.proofs.Rows.{raw_is, words_are}
-pub use Rattle.b67_rows.proofs.StackWords.{get-behind, get-front, get-seam, length-set, stack-over, take-seam}
+pub use Rattle.b67_rows.proofs.StackWords.{get_behind, get_seam, stack_over}
 pub use Rattle.b67_rows.proofs.StoreRow.{most_is}
 pub use Rattle.b67_rows.proofs.TopRow.{pushed_do}
 pub use Rattle.b67_rows.proofs.Weighing.{decls_small, stmt_small, stmts_small}
-pub use Rattle.b67_rows.proofs.Words.{pcw_kind, tag_zero, value_tag}
+pub use Rattle.b67_rows.proofs.Words.{pcw_kind, value_tag}
 pub use Rattle.b67_frames.specs.Arrays.{Allotted, AreKnown, AreMade, AreSized, ArrayHasRow, ArraysAre, CellIsMade, Denotes, DescriptorIs, ElementIsIn, HasArray, HeldIs, HoldElements, IsActual, IsArrayOf, IsMadeSo, IsNamed, Layout, LeadsToEvent, LeadsToVariable, Names, ReferenceLeadsTo, a_variable_named, an_array_named, an_event_named, live_rows, named_from, open_rows, row_length, row_numbers_of, rows_of_bounds, rows_of_cell, rows_of_cells}
 pub use Rattle.b67_frames.specs.Events.{EventsAre, HasEvent}
 pub use Rattle.b67_frames.specs.Frames.{ArePlaced, Around, CellIs, CellsAre, Frame, FrameIsPlaced, FrameStands, Framed, IsChained, IsComplete, IsInReach, Owned, Refers, Waits, block_controls, home_of, inside, level_of_part, most_around, of_lent, of_own, outermost, run_level}

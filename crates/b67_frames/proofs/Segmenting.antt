@@ -19,12 +19,13 @@ use Rattle.algol_tree.specs.Scopes.{scopes_of}
 use Rattle.algol_tree.specs.Sites.{Site, name_part, wants_value, actual_part, actual_part_by, first_formal, other_formals, inside_expr, inside_list, inside_actuals, sites, sites_in_pairs, here_stmt, has_decls, inside_stmt, sites_in_stmts, sites_in_decls}
 use Rattle.algol_tree.specs.Sorts.{Declared}
 use Rattle.algol_tree.specs.Surroundings.{Surroundings, outermost, formals_at, knowing, knowing_all, inside, inside_procedure}
+use Rattle.algol_tree.proofs.Trees.{got_numbered}
 use Rattle.algol_paths.specs.Segments.{is_procedure, procedures_before, segment_among, tokens_or_none, segment_tokens}
 use Rattle.b67_templates.specs.Arguments.{arguments_in_decls}
 use Rattle.b67_templates.specs.Depths.{decls_depth, depth}
 use Rattle.b67_templates.specs.Names.{DeclsNamed, StmtNamed, StmtsNamed}
 use Rattle.b67_rows.proofs.ActualsWeighing.{actual_small}
-use Rattle.b67_rows.proofs.InnerBlocks.{own_tokens, block_there, Inside, blocks_inside}
+use Rattle.b67_rows.proofs.InnerBlocks.{own_tokens, Inside, blocks_inside}
 
 -- the segments that begin at these places of the text
 abbrev segs : List Site → List Segment
@@ -272,7 +273,7 @@ block_fits (tree.program (tree.body spot ds ss)) named j known (inr own) =
     let all : Match bs (sites_of p) =
     match_both (blocks_in_decls ds (spot ∷ [])) (blocks_in_stmts ss (spot ∷ [])) (sites_in_decls bs ds outermost []) (sites_in_stmts bs ss (has_decls ds) (knowing_all bs ds outermost))
     (decls_match bs ds outermost [] (spot ∷ []) named.0) (stmts_match bs ss (has_decls ds) (knowing_all bs ds outermost) (spot ∷ []) named.1) in
-    let there : slice_get bs j ≡ Some (block_numbered bs j) = block_there bs j known in
+    let there : slice_get bs j ≡ Some (block_numbered bs j) = got_numbered bs j known in
     let number : slice_get (filter is_procedure bs) (procedures_before bs j) ≡ Some (block_numbered bs j) = numbered_procedure bs j (block_numbered bs j) there own in
     let segment : segment_tokens p (if is_procedure (block_numbered bs j) then procedures_before bs j + 1 else segment_among bs (around bs j)) ≡ tokens_or_none (slice_get (segs (sites_of p)) (procedures_before bs j)) =
     ap (λ (t : Bool). segment_tokens p (if t then procedures_before bs j + 1 else segment_among bs (around bs j))) own

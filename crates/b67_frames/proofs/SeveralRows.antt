@@ -1,6 +1,6 @@
 -- ENTR on the intrinsic that waits for several events: the process goes on with a number, or it waits.
 use Rattle.std.proofs.Common.{◌≡◌, refl, sym, ap, ◌∙◌, ℕ, suc, ◌+◌, ◌-◌, ◌≤◌, pos, List, [], ◌∷◌, ◌++◌, length, map, Option, Some, None}
-use Rattle.b67_frames.proofs.Prelude.{reverse-reverse, reverse, nat_le, if◌then◌else◌, set_numbered, Word, operand, Place, Registers, Code, with_stack, is_open, event_of, if_chained, gives, Image, with_stacks, with_registers, pushed, Test, Program, answer, fault, asked, changed, effect_of, ◌>>=◌, done, registers, cell_place, enter, raw, Core, stack_of, with_core, AtOperator, CallsIntrinsic, entered_asked, chained_asked, cut_words, raw_is, stack-over, most_is, pushed_do}
+use Rattle.b67_frames.proofs.Prelude.{reverse-reverse, reverse, nat_le, if◌then◌else◌, set_numbered, Word, operand, Place, Registers, Code, with_stack, is_open, event_of, if_chained, gives, Image, with_stacks, with_registers, pushed, Test, Program, answer, fault, asked, changed, effect_of, ◌>>=◌, done, registers, cell_place, enter, raw, Core, stack_of, with_core, AtOperator, CallsIntrinsic, entered_asked, chained_asked, cut_words, raw_is, stack_over, most_is, pushed_do}
 use Rattle.std.specs.Prelude.{Bool, true}
 use Rattle.algol_standing.proofs.PathOrder.{and_true}
 use Rattle.b67_events.specs.Events.{first_event_happened, joined_all, with_list}
@@ -81,7 +81,7 @@ module _ (code : Code) (here : AtOperator code (ops.Plain kinds.Entr)) (words : 
       ap (λ (ws : List Word). changed p (pushed r.stack (operand (pos n) ∷ []) (registers ((number_core n).registers) done)) (with_stacks (with_numbers ns) (with_stack img.stacks r.stack ws)))
       (cut_words code here WaitAny (reverse words) reference marked below c)
       ∙ pushed_do p (with_numbers ns) r.stack (stack_of core) has.stack (operand (pos n) ∷ []) (core.below ++ reverse below) (registers ((number_core n).registers) done)
-      ∙ ap (λ (ws : List Word). with_registers (with_stacks (with_numbers ns) (with_stack img.stacks r.stack ws)) p ((number_core n).registers)) (sym (stack-over core.below (operand (pos n) ∷ []) below))
+      ∙ ap (λ (ws : List Word). with_registers (with_stacks (with_numbers ns) (with_stack img.stacks r.stack ws)) p ((number_core n).registers)) (sym (stack_over core.below (operand (pos n) ∷ []) below))
 
   -- a process that was released goes on with its woken number, which is 0 then
   pub woken_raw : (n : ℕ) → woken_number img.numbers core.registers.stack ≡ suc n →

@@ -1,7 +1,7 @@
 -- The static parents of an instance that stands: they stand, and their blocks are those around its own.
-use Rattle.std.proofs.Common.{◌≡◌, sym, ap, ◌∙◌, ℕ, zero, suc, ◌+◌, ◌≤◌, List, ◌∷◌, Some, arith}
-use Rattle.b67_frames.proofs.Prelude.{slice_get, around, block_numbered, level_of, Scopes, World, instance_at, ancestor, IsStanding, OUTER_LEVEL, some_same, none_some, length_around, Layout, IsComplete, FrameIsPlaced, outermost, inside, ArePlaced}
-use Rattle.b67_rows.proofs.Numbers.{get_within}
+use Rattle.std.proofs.Common.{◌≡◌, sym, ap, ◌∙◌, ℕ, zero, suc, ◌≤◌, List, ◌∷◌, Some, arith}
+use Rattle.b67_list.proofs.Numbers.{none_some}
+use Rattle.b67_frames.proofs.Prelude.{slice_get, around, Scopes, World, instance_at, ancestor, IsStanding, some_same, Layout, IsComplete, FrameIsPlaced, outermost, inside, ArePlaced}
 
 module _ (sc : Scopes) (w : World) (lay : Layout) where
   -- So many up, where there is a block b around that of the instance, a static parent stands, and is an instance of b. It has made all that its
@@ -26,10 +26,3 @@ module _ (sc : Scopes) (w : World) (lay : Layout) where
         by_placed (inside one_up next made) again =
             let there : IsParent ((instance_at w i).parent) up b = again ((instance_at w i).parent) one_up (ap (λ (bs : List ℕ). slice_get bs up) (sym next) ∙ e) in
             record { stands = there.stands; block = there.block; complete = λ far. made_up up ((instance_at w i).parent) made there.complete }
-
-    -- so far up as the level of its block there are parents
-    pub parent_stands : (i up : ℕ) → IsStanding w i → up + OUTER_LEVEL ≤ level_of (block_numbered sc.blocks ((instance_at w i).block)) → IsStanding w (ancestor w up i)
-    parent_stands i up st far =
-        let j : ℕ = (instance_at w i).block in
-        let there = get_within (j ∷ around sc.blocks j) up (omega (arith, far, length_around sc.blocks j)) in
-        (parents i st up there.0 there.1).stands

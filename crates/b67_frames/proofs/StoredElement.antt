@@ -1,14 +1,16 @@
 -- An element is stored, in the world and in its row.
 use Rattle.std.proofs.Common.{◌≡◌, ◌≢◌, ◌⊎◌, inl, inr, refl, sym, ap, ◌∙◌, subst, ℕ, ◌+◌, ◌*◌, ◌≤◌, List, ◌++◌, length, Option, Some, false, arith}
-use Rattle.b67_frames.proofs.Prelude.{slice_get, slice_set, numbered, set_numbered, block_numbered, Scopes, size_of_cells, size_unless, live_elements, flat, with_element, Value, ArrayCell, Cell, event, array, NamedCell, Instance, World, instance_at, or_no_instance, cell_in, cells_with, by_cell, DeclaredArray, an_array, Word, counts, Rows, with_row_word, simple_cells, made_of, HasKind, ValueIs, some_same, same_or_not, numbered_set, numbered_other, get_set, length-set, get-behind, Allotted, row_numbers_of, Layout, HoldElements, rows_of_cells, live_rows, AreMade, HasArray, ArrayHasRow, ArraysAre, IsArrayOf, ElementIsIn}
+use Rattle.b67_list.proofs.Lists.{get_set_other, length_set}
+use Rattle.b67_list.proofs.Numbered.{numbered_set}
+use Rattle.b67_frames.proofs.Prelude.{slice_get, slice_set, numbered, set_numbered, block_numbered, Scopes, size_of_cells, size_unless, live_elements, flat, with_element, Value, ArrayCell, Cell, event, array, NamedCell, Instance, World, instance_at, or_no_instance, cell_in, cells_with, by_cell, DeclaredArray, an_array, Word, counts, Rows, with_row_word, simple_cells, made_of, HasKind, ValueIs, some_same, same_or_not, numbered_other, get_set, get_behind, Allotted, row_numbers_of, Layout, HoldElements, rows_of_cells, live_rows, HasArray, ArrayHasRow, ArraysAre, IsArrayOf, ElementIsIn}
 use Rattle.algol_meaning.specs.World.{set_cell}
 use Rattle.b67_frames.proofs.ArraysKept.{elements_numbered, rows_numbered}
 use Rattle.b67_frames.proofs.ClosedRows.{AreApart}
 use Rattle.b67_frames.proofs.Knowing.{KeepsArrays, IsNoReference, keeps_same, other_stays, names_stay}
 use Rattle.b67_frames.proofs.OneClosed.{part_number, holds_same}
 use Rattle.b67_frames.proofs.OwnCells.{OwnCells, OwnArray, known_array, known_has}
-use Rattle.b67_frames.proofs.StoredCells.{IsAlike, size_stays, rows_stay, made_stays, StillArray, array_still}
-use Rattle.b67_frames.proofs.StoredRows.{written_open, written_other, get_other, holds_stored}
+use Rattle.b67_frames.proofs.StoredCells.{IsAlike, size_stays, rows_stay, StillArray, array_still}
+use Rattle.b67_frames.proofs.StoredRows.{written_open, written_other, holds_stored}
 use Rattle.b67_frames.proofs.Zeros.{cells_length}
 
 -- an array by its number is the same in a later world, or it is the one with the element
@@ -41,7 +43,7 @@ module _ (sc : Scopes) (w : World) (lay : Layout) (rows : Rows) (are : ArraysAre
   later = with_element cell ks v
 
   alike : IsAlike cell later
-  alike = record { bounds = refl; many = length-set cell.elements (flat 0 cell.bounds ks) v }
+  alike = record { bounds = refl; many = length_set cell.elements (flat 0 cell.bounds ks) v }
 
   abbrev pub element_world : World
   element_world = set_cell w (record { instance = i; name = name }) (array (with_element cell ks v))
@@ -83,9 +85,6 @@ module _ (sc : Scopes) (w : World) (lay : Layout) (rows : Rows) (are : ArraysAre
   means : cell_in x.cells name ≡ array cell
   means = ap (λ (y : Instance). cell_in y.cells name) (sym here) ∙ of.is
 
-  means_behind : cell_in own.arrays name ≡ array cell
-  means_behind = sym (found.behind own.arrays) ∙ ap (λ (cells : List NamedCell). cell_in cells name) (sym own.has) ∙ means
-
   row : (k n : ℕ) → slice_get (row_numbers_of a) k ≡ Some n → ArrayHasRow sc w lay i of.number k n
   row k n e = record { declared = declared; cell = cell; allotted = a; array = has; there = e }
 
@@ -94,29 +93,8 @@ module _ (sc : Scopes) (w : World) (lay : Layout) (rows : Rows) (are : ArraysAre
 
   -- ---- the cells of the instance
 
-  pub made_still : AreMade own.declared (cells_with own.arrays name (array (with_element cell ks v))) (lay.rows i) own.descriptors
-  made_still = made_stays name cell later alike own.declared own.arrays (lay.rows i) own.descriptors means_behind own.made
-
   pub cells_still : cells_with x.cells name (array (with_element cell ks v)) ≡ own.simple ++ cells_with own.arrays name (array (with_element cell ks v))
   cells_still = found.changed_behind (array later)
-
-  -- with the same descriptors
-  abbrev pub own_still : OwnCells sc element_world lay i element_instance
-  own_still =
-      record {
-        is = element_there;
-        stands = own.stands;
-        simple = own.simple;
-        values = own.values;
-        simple_are = own.simple_are;
-        arrays = cells_with own.arrays name (array (with_element cell ks v));
-        declared = own.declared;
-        later = own.later;
-        order = own.order;
-        descriptors = own.descriptors;
-        made = made_still;
-        has = cells_still;
-      }
 
   -- ---- the arrays of the world
 
@@ -147,7 +125,7 @@ module _ (sc : Scopes) (w : World) (lay : Layout) (rows : Rows) (are : ArraysAre
 
           lies : slice_get (slice_set own.arrays of.number (record { name = declared.name; cell = array later })) other ≡ Some (record { name = d.name; cell = array c })
           lies =
-              sym (get-behind own.simple (slice_set own.arrays of.number (record { name = declared.name; cell = array later })) other (first + other)
+              sym (get_behind own.simple (slice_set own.arrays of.number (record { name = declared.name; cell = array later })) other (first + other)
               (ap (λ (n : ℕ). n + other) (sym simple_many)))
               ∙ ap (λ (cells : List NamedCell). slice_get cells (first + other)) (sym (cells_still ∙ ap (λ (cells : List NamedCell). own.simple ++ cells) (found.changed (array later))))
               ∙ ap (λ (y : Instance). slice_get y.cells (length (simple_cells sc (block_numbered sc.blocks y.block)) + other)) instance_is
@@ -172,8 +150,8 @@ module _ (sc : Scopes) (w : World) (lay : Layout) (rows : Rows) (are : ArraysAre
                 declares = declares;
                 has =
                     ap (λ (cells : List NamedCell). slice_get cells (first + other)) own.has
-                    ∙ get-behind own.simple own.arrays other (first + other) (ap (λ (n : ℕ). n + other) (sym simple_many))
-                    ∙ sym (get_other own.arrays of.number other (record { name = declared.name; cell = array later }) (λ e. apart_is (sym e)))
+                    ∙ get_behind own.simple own.arrays other (first + other) (ap (λ (n : ℕ). n + other) (sym simple_many))
+                    ∙ sym (get_set_other own.arrays of.number other (record { name = declared.name; cell = array later }) (λ e. apart_is (sym e)))
                     ∙ lies;
                 allotted = h.allotted;
               }) (λ _ number_is. apart_is number_is)

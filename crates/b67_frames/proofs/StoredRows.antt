@@ -1,13 +1,12 @@
 -- A word is written into a row of an array: the rows hold the array with that element.
 use Rattle.std.proofs.Common.{◌≡◌, ◌≢◌, ◌⊎◌, inl, inr, refl, sym, ap, ◌∙◌, ℕ, zero, suc, ◌+◌, ◌*◌, ◌<◌, ◌≤◌, List, [], ◌∷◌, length, Option, Some, None, true, arith}
-use Rattle.b67_frames.proofs.Prelude.{slice_get, slice_set, Scopes, Kind, flat, with_element, Value, ArrayCell, World, Word, changed_others, Row, Rows, row_at, row_limit, row_with, with_row_word, HasKind, ValueIs, some_same, none_some, same_or_not, numbered_other, most_or_more, get_set, length-set, Allotted, row_numbers_of, Layout, row_length, HoldElements, open_rows, ElementIsIn}
+use Rattle.b67_list.proofs.Lists.{get_set_other, length_set}
+use Rattle.b67_list.proofs.Numbers.{more_room, none_some}
+use Rattle.b67_frames.proofs.Prelude.{slice_get, slice_set, Scopes, Kind, flat, with_element, Value, ArrayCell, World, Word, changed_others, Row, Rows, row_at, row_limit, row_with, with_row_word, HasKind, ValueIs, some_same, same_or_not, most_or_more, get_set, Allotted, row_numbers_of, Layout, row_length, HoldElements, open_rows, ElementIsIn}
 use Rattle.b67_frames.proofs.ClosedRows.{AreApart}
 use Rattle.b67_frames.proofs.ElementRows.{flat_is, at_below}
 
 -- ---- numbers of elements
-
-product : (m n k : ℕ) → m ≤ n → m * k ≤ n * k
-product m n k h = grind arith
 
 -- elements of other rows have other numbers
 pub other_number : (j k index at n : ℕ) → k < n → at < n → j ≢ index → j * n + k ≢ index * n + at
@@ -16,11 +15,11 @@ other_number j k index at n low low' other same = by_order (most_or_more j index
     by_order : (j ≤ index) ⊎ (index < j) → ⊥
     by_order (inl h) =
         let below : j + 1 ≤ index = omega (arith, h, other) in
-        let more : (j + 1) * n ≤ index * n = product (j + 1) index n below in
+        let more : (j + 1) * n ≤ index * n = more_room (j + 1) index n below in
         absurd (omega (arith, more, same, low))
     by_order (inr h) =
         let below : index + 1 ≤ j = omega (arith, h) in
-        let more : (index + 1) * n ≤ j * n = product (index + 1) j n below in
+        let more : (index + 1) * n ≤ j * n = more_room (index + 1) j n below in
         absurd (omega (arith, more, same, low'))
 
 -- ---- rows
@@ -45,9 +44,6 @@ pub written_other : (rows : Rows) (n at : ℕ) (word : Word) (m : ℕ) → m ≢
 written_other rows n at word m other = changed_others rows n m (row_with (row_at rows n) at word) other
 
 -- ---- items of lists
-
-pub get_other : {A : Type 0} (xs : List A) (k j : ℕ) (y : A) → j ≢ k → slice_get (slice_set xs k y) j ≡ slice_get xs j
-get_other xs k j y other = numbered_other xs (suc k) (suc j) y (λ same. other (omega (arith, same)))
 
 -- ---- an element
 
@@ -152,8 +148,8 @@ module _ (sc : Scopes) (w : World) (lay : Layout) (rows : Rows) (kind : Kind) (c
               other (omega (arith, both))) in (
                 old.0,
                 old.1,
-                get_other cell.elements (flat 0 cell.bounds ks) (j * long + k) v apart_is ∙ old.2,
-                ap (λ (ws : List Word). slice_get ws k) (sym words_are) ∙ get_other old_words at k word other ∙ old.3,
+                get_set_other cell.elements (flat 0 cell.bounds ks) (j * long + k) v apart_is ∙ old.2,
+                ap (λ (ws : List Word). slice_get ws k) (sym words_are) ∙ get_set_other old_words at k word other ∙ old.3,
                 old.4,
                 old.5,
               )
@@ -161,7 +157,7 @@ module _ (sc : Scopes) (w : World) (lay : Layout) (rows : Rows) (kind : Kind) (c
           let old : Element cell j k words = holds.elements j k n words there short (sym (written_other rows number at word n other) ∙ row) in
           let row_other : j ≢ index = (λ same. other (some_same (sym there ∙ ap (λ (m : ℕ). slice_get a.parts m) same ∙ part))) in
           let apart_is : j * long + k ≢ flat 0 cell.bounds ks = (λ same. other_number j k index at long short low row_other (same ∙ place)) in
-          (old.0, old.1, get_other cell.elements (flat 0 cell.bounds ks) (j * long + k) v apart_is ∙ old.2, old.3, old.4, old.5)
+          (old.0, old.1, get_set_other cell.elements (flat 0 cell.bounds ks) (j * long + k) v apart_is ∙ old.2, old.3, old.4, old.5)
 
   pub holds_stored : HoldElements (with_row_word rows number at word) kind (with_element cell ks v) a
   holds_stored =
@@ -176,7 +172,7 @@ module _ (sc : Scopes) (w : World) (lay : Layout) (rows : Rows) (kind : Kind) (c
       row_open j n there (inl same) =
           let old = holds.opened index number part in (
             (holds.opened j n there).0,
-            (slice_set old_words at word, ap (λ (m : ℕ). row_at rows' m) same ∙ new_row, length-set old_words at word ∙ old.1.2),
+            (slice_set old_words at word, ap (λ (m : ℕ). row_at rows' m) same ∙ new_row, length_set old_words at word ∙ old.1.2),
           )
       row_open j n there (inr other) =
           let old = holds.opened j n there in

@@ -1,6 +1,8 @@
 -- A subscript that is moved by the lower bound is the index of the place that the meaning gives it.
 use Rattle.std.proofs.Common.{◌≡◌, refl, sym, ap, ◌∙◌, subst, ℕ, ◌+◌, ◌<◌, ◌≤◌, List, [], ◌∷◌, length, Option, Some, None, Bool, true, false, ℤ, arith}
-use Rattle.b67_frames.proofs.Prelude.{nat_tests, ints, map, slice_get, pos, negsuc, ◌-ℤ◌, int_lt, int_le, nat_abs, nat_lt, ◌&&◌, if◌then◌else◌, size_of, Bounds, ArrayCell, some_same, none_some, AreSized}
+use Rattle.b67_cores.proofs.Lows.{is_least as is_most, is_less, not_less}
+use Rattle.b67_list.proofs.Truths.{and_false}
+use Rattle.b67_frames.proofs.Prelude.{nat_tests, ints, map, slice_get, pos, negsuc, ◌-ℤ◌, int_lt, int_le, nat_abs, nat_lt, ◌&&◌, if◌then◌else◌, size_of, Bounds, ArrayCell, AreSized}
 use Rattle.std.specs.Prelude.{neg_ℤ, ◌+ℤ◌, ◌<ℤ◌, ◌≤ℤ◌}
 use Rattle.algol_tree.specs.Sorts.{Sort, array, formal_array}
 use Rattle.algol_meaning.specs.Arrays.{placed, placed_in, moved_to, moved, subscript_place}
@@ -9,15 +11,6 @@ use Rattle.b67_templates.specs.Fragments.{Low, zero, above, near, far, moved_num
 use Rattle.b67_frames.proofs.FewElements.{OneSized, one_sized, TwoSized, two_sized}
 
 -- ---- tests of whole numbers
-
-is_less : (x y : ℤ) → int_lt x y ≡ true → x <ℤ y
-is_less x y h = grind (arith, ints)
-
-is_least : (x y : ℤ) → int_lt x y ≡ false → y ≤ℤ x
-is_least x y h = grind (arith, ints)
-
-is_most : (x y : ℤ) → int_le x y ≡ true → x ≤ℤ y
-is_most x y h = grind (arith, ints)
 
 is_more : (x y : ℤ) → int_le x y ≡ false → y <ℤ x
 is_more x y h = grind (arith, ints)
@@ -72,10 +65,6 @@ span b some = by_test (int_le b.low b.high) refl
         by_difference (negsuc n) same = absurd (omega (arith, ints))
     by_test false e = absurd (let none : size_of b ≡ 0 = ap (λ (t : Bool). if t then nat_abs (b.high -ℤ b.low) + 1 else 0) e in omega (arith, none))
 
-pub and_false : (t : Bool) → (t && false) ≡ false
-and_false true = refl
-and_false false = refl
-
 -- a subscript outside the bounds has no place
 lower_none : (b : Bounds) (z : ℤ) → z <ℤ b.low → placed b z ≡ None
 lower_none b z h = ap (λ (t : Bool). if t && int_le z b.high then Some (nat_abs (z -ℤ b.low)) else None) (not_most b.low z h)
@@ -121,7 +110,7 @@ module _ (b : Bounds) (s : Span b) where
 
     at_zero : int_lt (pos 0) b.low ≡ false → int_le (pos 0) b.low ≡ true → (z : ℤ) → Leads z z
     at_zero e f z =
-        let high : b.low ≤ℤ pos 0 = is_least (pos 0) b.low e in
+        let high : b.low ≤ℤ pos 0 = not_less (pos 0) b.low e in
         let low : pos 0 ≤ℤ b.low = is_most (pos 0) b.low f in
         let same : z -ℤ b.low ≡ z = omega (arith, ints) in
         subst (Leads z) same (difference_placed z)
@@ -149,8 +138,8 @@ module _ (b : Bounds) (s : Span b) where
     from_far e z =
         on_test (Leads z) (int_lt z (pos 0)) (z -ℤ b.low) (neg_ℤ b.low) (λ _. difference_placed z)
         (λ f.
-        let low : b.low ≤ℤ neg_ℤ (pos 1048576) = is_least (neg_ℤ (pos 1048576)) b.low e in
-        let some : pos 0 ≤ℤ z = is_least z (pos 0) f in
+        let low : b.low ≤ℤ neg_ℤ (pos 1048576) = not_less (neg_ℤ (pos 1048576)) b.low e in
+        let some : pos 0 ≤ℤ z = not_less z (pos 0) f in
         let outside : b.high <ℤ z = omega (arith, ints, s.high, short) in
         let long : pos (size_of b) ≤ℤ neg_ℤ b.low = omega (arith, ints) in
         beyond_none (neg_ℤ b.low) (size_of b) long ∙ sym (higher_none b z outside))
@@ -167,18 +156,6 @@ module _ (b : Bounds) (s : Span b) where
 
 pub index_placed : (b : Bounds) (low z : ℤ) → b.low ≡ low → 1 ≤ size_of b → size_of b ≤ 1048576 → index_in (moved_number low z) (size_of b) ≡ placed b z
 index_placed b low z is some few = subst (λ (l : ℤ). index_in (moved_number l z) (size_of b) ≡ placed b z) is (moved_placed b (span b some) few z)
-
--- an index is below the size
-pub index_below : (y : ℤ) (m k : ℕ) → index_in y m ≡ Some k → k < m
-index_below (pos n) m k is = by_test (nat_lt n m) refl is
-  where
-    by_test : (t : Bool) → nat_lt n m ≡ t → (if t then Some n else None) ≡ Some k → k < m
-    by_test true e same =
-        let short : n < m = grind (arith, nat_tests) in
-        let here : n ≡ k = some_same same in
-        omega (arith, short, here)
-    by_test false e same = none_some same
-index_below (negsuc n) m k is = none_some is
 
 -- ---- other lower bounds
 

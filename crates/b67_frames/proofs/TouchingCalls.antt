@@ -1,7 +1,8 @@
 -- The entry of an intrinsic: it names the cell of its control word in the system's stack, and no other, since its arguments are operands.
 use Rattle.std.proofs.Common.{◌≡◌, refl, sym, ap, ◌∙◌, subst, ℕ, ◌+◌, ◌-◌, ◌≤◌, List, ◌∷◌, ◌++◌, Option, Some, None, true, false, arith, length, lit<, length-append}
-use Rattle.b67_frames.proofs.Prelude.{length-reverse, slice_get, reverse, Scopes, Value, Word, as_irw, as_sirw, place_at, Irw, Pcw, Sirw, intrinsic_number_of, couple_of_intrinsic, Intrinsic, word_at, system_stack, place, Image, irw_or_sirw, Slot, intrinsic, mark, slots_length, Core, HasCore, Known, SlotsAre, none_some, words_are, stack-over, get-behind, pcw_kind, tag_zero}
-use Rattle.b67_control.proofs.ControlLaws.{as_sirw-other, irw_laws}
+use Rattle.b67_list.proofs.Numbers.{none_some}
+use Rattle.b67_frames.proofs.Prelude.{length-reverse, slice_get, reverse, Scopes, Value, Word, as_irw, as_sirw, place_at, Irw, Pcw, Sirw, intrinsic_number_of, couple_of_intrinsic, Intrinsic, word_at, system_stack, place, Image, irw_or_sirw, Slot, intrinsic, mark, slots_length, Core, HasCore, Known, SlotsAre, words_are, stack_over, get_behind, pcw_kind}
+use Rattle.b67_control.proofs.ControlLaws.{as_sirw_other, irw_laws, tag_zero}
 use Rattle.b67_ops.specs.declared.Operator.TheVariants as ops
 use Rattle.b67_ops.specs.declared.PlainKind.TheVariants as kinds
 use Rattle.b67_ops.specs.declared.intrinsic.Intrinsic.TheVariants as names
@@ -14,7 +15,7 @@ use Rattle.b67_cores.specs.Slots.{newest}
 use Rattle.b67_footprints.proofs.Lists.{Each, each_turned, each_at}
 use Rattle.b67_rows.proofs.Actuals.{Given_words, given_words}
 use Rattle.b67_rows.proofs.Slotted.{Top, top_slot}
-use Rattle.b67_rows.proofs.StackWords.{word-over, word-under}
+use Rattle.b67_rows.proofs.StackWords.{word_over, word_under}
 use Rattle.b67_rows.proofs.Touching.{system_cell, NamesNear}
 use Rattle.b67_rows.proofs.TouchingNames.{entry_names}
 use Rattle.b67_rows.proofs.Words.{no_sirw, reference_read}
@@ -27,13 +28,13 @@ pub under_top : (img : Image) (p : ℕ) (core : Core) → HasCore img p core →
     word_at img.stacks (place core.registers.stack n) ≡ Some y
 under_top img p core has above y words top n e =
     ap (λ (ws : List Word). slice_get ws n) (words_are img p core has ∙ ap (λ (ws : List Word). core.below ++ reverse ws) top)
-    ∙ word-under core.below above y words n e
+    ∙ word_under core.below above y words n e
 
 -- the word on top
 pub over_top : (img : Image) (p : ℕ) (core : Core) → HasCore img p core → (x : Word) (words : List Word) → core.words ≡ x ∷ words → word_at img.stacks (place core.registers.stack (core.registers.s - 1)) ≡ Some x
 over_top img p core has x words top =
     ap (λ (ws : List Word). slice_get ws (core.registers.s - 1)) (words_are img p core has ∙ ap (λ (ws : List Word). core.below ++ reverse ws) top)
-    ∙ word-over core.below x words (core.registers.s - 1) (omega (arith, has.is.top, ap length top))
+    ∙ word_over core.below x words (core.registers.s - 1) (omega (arith, has.is.top, ap length top))
 
 -- ---- control words of intrinsics
 
@@ -61,7 +62,7 @@ lies_there names.Available = refl
 lies_there names.Fix = refl
 
 pub pcw_no_sirw : (name : Intrinsic) → as_sirw (intrinsic_pcw (intrinsic_number_of name)) ≡ None
-pcw_no_sirw name = as_sirw-other (intrinsic_pcw (intrinsic_number_of name)) (λ k. let is = sym (pcw_kind (control_of name)) ∙ k in cc)
+pcw_no_sirw name = as_sirw_other (intrinsic_pcw (intrinsic_number_of name)) (λ k. let is = sym (pcw_kind (control_of name)) ∙ k in cc)
 
 -- ---- operands
 
@@ -74,8 +75,8 @@ pub above_others : (P : Word → Type 0) (below args words : List Word) → Each
 above_others P below args words are n u high e =
     let long : length (below ++ reverse words) ≡ length below + length words = length-append below (reverse words) ∙ ap (λ (k : ℕ). length below + k) (length-reverse words) in
     each_at P (reverse args) (n - length (below ++ reverse words)) u (each_turned P args are)
-    (sym (get-behind (below ++ reverse words) (reverse args) (n - length (below ++ reverse words)) n (omega (arith, long, high)))
-    ∙ ap (λ (ws : List Word). slice_get ws n) (sym (stack-over below args words)) ∙ e)
+    (sym (get_behind (below ++ reverse words) (reverse args) (n - length (below ++ reverse words)) n (omega (arith, long, high)))
+    ∙ ap (λ (ws : List Word). slice_get ws n) (sym (stack_over below args words)) ∙ e)
 
 -- ---- where a process stands at it
 

@@ -1,6 +1,7 @@
 -- The marks in a process's stack lead to the frames below them that lie there, and to the system's stack.
-use Rattle.std.proofs.Common.{◌≡◌, ◌≢◌, ◌⊎◌, inl, inr, refl, sym, ap, ◌∙◌, subst, ℕ, zero, suc, ◌+◌, ◌<◌, ◌≤◌, ◌^◌, List, [], ◌∷◌, ◌++◌, length, Option, Some, Bool, true, false, arith, lit<, length-append}
-use Rattle.b67_frames.proofs.Prelude.{length-reverse, if◌then◌else◌, ◌==◌, slice_get, reverse, numbered, Block, block_numbered, level_of, PProgram, Scopes, use_of, same_name, MOST_BLOCK_CELLS, Kind, Named, is_evaluation, Value, Bounds, Cell, simple, event, array, named, reference as refers, NamedCell, Instance, Part, World, or_no_instance, Made, an_array, an_event, IsStanding, IsOnPath, Word, Place, Fits-as_rcw, as_mscw, as_rcw, event_word, pcw_word, Descriptor, Irw, Pcw, Sirw, intrinsic_number_of, couple_of_intrinsic, Couple, Intrinsic, Code, get_within, system_stack, place, cell_word, Simple, Found, simple_cells, found_from, procedures, IsVariable, Wanted, made_of, Yields, AreNested, Texts, HeldWord, element, variable, cell_named, actual, passed, Slot, intrinsic, mark, slots_length, Core, stack_of, ValueIs, Known, IsKnown, SlotsAre, control_words, some_same, value_tag, pcw_kind, tag_zero, Allotted, Layout, DescriptorIs, AreMade, Denotes, HeldIs, AreKnown, CellIs, Refers, CellsAre, block_controls, IsInReach, FrameIsPlaced, outermost, inside, ArePlaced, home_of, Frame, FrameStands, Waits, Around, level_of_part, Owned, of_own, of_lent, run_level}
+use Rattle.std.proofs.Common.{◌≡◌, ◌≢◌, ◌⊎◌, inl, inr, refl, sym, ap, ◌∙◌, subst, ℕ, zero, suc, ◌+◌, ◌<◌, ◌≤◌, ◌^◌, List, [], ◌∷◌, ◌++◌, length, Some, Bool, true, false, arith, lit<, length-append}
+use Rattle.b67_list.proofs.Lists.{get_within}
+use Rattle.b67_frames.proofs.Prelude.{length-reverse, if◌then◌else◌, ◌==◌, slice_get, reverse, numbered, Block, block_numbered, PProgram, Scopes, use_of, same_name, MOST_BLOCK_CELLS, Kind, Named, Value, Bounds, Cell, simple, event, array, named, reference as refers, NamedCell, Instance, Part, World, or_no_instance, Made, an_array, an_event, IsStanding, IsOnPath, Word, Place, as_mscw, as_rcw, event_word, pcw_word, Descriptor, Irw, Pcw, Sirw, intrinsic_number_of, couple_of_intrinsic, Couple, Intrinsic, Code, system_stack, place, cell_word, Simple, Found, simple_cells, found_from, procedures, IsVariable, Wanted, made_of, Yields, AreNested, Texts, HeldWord, element, variable, cell_named, actual, passed, Slot, intrinsic, mark, slots_length, Core, stack_of, ValueIs, Known, IsKnown, SlotsAre, control_words, some_same, value_tag, pcw_kind, Allotted, Layout, DescriptorIs, AreMade, Denotes, HeldIs, AreKnown, CellIs, Refers, CellsAre, block_controls, IsInReach, FrameIsPlaced, outermost, inside, ArePlaced, home_of, Frame, FrameStands, Waits, Around, level_of_part, Owned, of_own, of_lent}
 use Rattle.algol_tree.specs.Scopes.{scopes_of}
 use Rattle.b67_word.specs.Word.{field}
 use Rattle.b67_control.specs.Kind as kind
@@ -8,7 +9,7 @@ use Rattle.b67_control.specs.Kind.{kind_of}
 use Rattle.b67_control.specs.declared.Mscw.{Mscw}
 use Rattle.b67_control.specs.declared.Rcw.{Rcw}
 use Rattle.b67_control.specs.Control.{descriptor_word, irw_word, sirw_word}
-use Rattle.b67_control.proofs.ControlLaws.{as_rcw-rcw_word, mscw_laws, rcw_laws, as_mscw-mscw_word}
+use Rattle.b67_control.proofs.ControlLaws.{as_rcw_rcw_word, mscw_laws, rcw_laws, as_mscw_mscw_word, tag_zero}
 use Rattle.b67_ops.specs.declared.intrinsic.Intrinsic.TheVariants as names
 use Rattle.b67_ops.specs.Intrinsics.{intrinsics}
 use Rattle.b67_store.specs.Store.{stack_limit}
@@ -24,7 +25,7 @@ use Rattle.b67_rows.proofs.Words.{event_kind, mark_read}
 use Rattle.b67_frames.specs.Frames.{Shape}
 use Rattle.b67_frames.proofs.Facts.{HasFacts}
 use Rattle.b67_frames.proofs.Lying.{owned_stands, part_in}
-use Rattle.b67_faithful.proofs.Sources.{reverse-cons}
+use Rattle.b67_faithful.proofs.Sources.{reverse_cons}
 
 -- the number of an intrinsic fits a reference
 pub numbers_small : (name : Intrinsic) → intrinsic_number_of name < 2 ^ 14
@@ -128,7 +129,7 @@ module _ (Home : ℕ → ℕ → Type 0) (root : (n : ℕ) → Home 0 n) where
 
   lead_turned : (xs : List Word) → AllLead xs → AllLead (reverse xs)
   lead_turned [] a = tt
-  lead_turned (x ∷ xs) a = subst AllLead (sym (reverse-cons x xs)) (lead_both (reverse xs) (x ∷ []) (lead_turned xs a.1) (a.0, tt))
+  lead_turned (x ∷ xs) a = subst AllLead (sym (reverse_cons x xs)) (lead_both (reverse xs) (x ∷ []) (lead_turned xs a.1) (a.0, tt))
 
   pub lead_at : (xs : List Word) (n : ℕ) (w : Word) → AllLead xs → slice_get xs n ≡ Some w → LinksTo Home w
   lead_at [] n w a e = cc
@@ -146,8 +147,8 @@ module _ (Home : ℕ → ℕ → Type 0) (root : (n : ℕ) → Home 0 n) where
   system_leads =
       let m : Mscw = record { entered = true; stack = 0; displacement = 0; df = 0 } in
       let c : Rcw = record { segment = 0; psr = 0; pir = 0; caller_level = 0; caller_cells = 0; own_level = 0 } in (
-        mark_leads _ m (as_mscw-mscw_word m (lit< tt, (lit< tt, (lit< tt, tt)))) (root 0),
-        (back_leads _ c (as_rcw-rcw_word c (lit< tt, (lit< tt, (lit< tt, (lit< tt, (lit< tt, (lit< tt, tt))))))), intrinsics_lead 2 intrinsics),
+        mark_leads _ m (as_mscw_mscw_word m (lit< tt, (lit< tt, (lit< tt, tt)))) (root 0),
+        (back_leads _ c (as_rcw_rcw_word c (lit< tt, (lit< tt, (lit< tt, (lit< tt, (lit< tt, (lit< tt, tt))))))), intrinsics_lead 2 intrinsics),
       )
 
   -- ---- cells
@@ -291,13 +292,6 @@ module _ (tree : PProgram) (code : Code) (texts : Texts) (nested : AreNested (sc
 
   abbrev Outer : List Part → List Word → Word → Word → Yields → Type 0
   Outer parts lower m c wanted = Around tree code texts w lay p parts lower m c wanted
-
-  module _ (part : Part) (outer : List Part) (core : Core) (s : FrameStands tree code texts w lay p part outer core) (a : Outer outer s.frame.lower s.frame.mark s.frame.control s.frame.gives) where
-    pub level_known : level_of_part tree code texts w lay p part < 32
-    level_known =
-        let same : level_of_part tree code texts w lay p part ≡ run_level (is_evaluation part.purpose) (level_of (block_numbered sc.blocks s.frame.instance.block)) =
-        ap (λ (o : Option Instance). run_level (is_evaluation part.purpose) (level_of (block_numbered sc.blocks ((or_no_instance o).block)))) s.frame.is in
-        omega (arith, same, s.frame.level_is, (Fits-as_rcw s.frame.control s.frame.control_is).1.1.1.1.1.0)
 
   -- Where the frames of the instances that a process has, and of those on the paths from them, are such places, and those of the system's stack.
   module _ (facts : HasFacts w) (placed : ArePlaced (scopes_of tree) w lay) (Home : ℕ → ℕ → Type 0) (root : (n : ℕ) → Home 0 n) (Has : ℕ → Type 0)

@@ -1,25 +1,19 @@
 -- A history leads to one image only, by one number of operators for each entry.
 use Rattle.std.specs.Prelude.{◌&&◌}
-use Rattle.std.proofs.Common.{arith, ◌≡◌, refl, sym, ap, subst, ◌∙◌, ℕ, ◌+◌, ◌≤◌, Bool, true, false, List, [], ◌∷◌, true≢false}
+use Rattle.std.proofs.Common.{arith, ◌≡◌, refl, sym, ap, subst, ◌∙◌, ℕ, ◌+◌, ◌≤◌, Bool, false, List, [], ◌∷◌, true≢false}
 use Rattle.b67_num.specs.declared.FaultKind.{FaultKind}
 use Rattle.b67_segment.specs.declared.code.Code.{Code}
 use Rattle.b67_table.specs.Image.{Image}
 use Rattle.b67_table.specs.Outcome.{Outcome, gives, faults, limit}
-use Rattle.b67_table.specs.Ending.{failed}
 use Rattle.b67_table.specs.Table.{table, plain, private_next, is_new}
 use Rattle.b67_table.specs.Runs.{Plains, stay, go, ProcessActs, acts, fails, RunEntry, Runs, begin, entry}
-
-given : (x y : Image) → gives x ≡ gives y → x ≡ y
-given x y e = cc
-
-neither : (b : Bool) → (b && false) ≡ false
-neither true = refl
-neither false = refl
+use Rattle.b67_table.proofs.Cited.{differ_fault, gives_same, kept_kind}
+use Rattle.b67_list.proofs.Truths.{and_false}
 
 -- where the table gives no new image the operator is not plain
 no_plain : (code : Code) (img : Image) (p : ℕ) → is_new (table code img p) ≡ false → plain code img p ≡ false
 unfolding plain
-no_plain code img p e = ap (λ (x : Bool). private_next code img p && x) e ∙ neither (private_next code img p)
+no_plain code img p e = ap (λ (x : Bool). private_next code img p && x) e ∙ and_false (private_next code img p)
 
 stuck : (code : Code) (p : ℕ) (a b : Image) → ProcessActs code p a b → plain code a p ≡ false
 stuck code p a b (acts e t) = e
@@ -35,14 +29,8 @@ plains_one code p a b c n m stay e stay f = record { image = refl; count = refl 
 plains_one code p a b c n m stay e (go h t rest) f = absurd (true≢false (sym h ∙ e))
 plains_one code p a b c n m (go h t rest) e stay f = absurd (true≢false (sym h ∙ f))
 plains_one code p a b c n m (go {b = x} {n = k} h t rest) e (go {b = y} {n = l} i u more) f =
-    let s = plains_one code p x b c k l rest e (subst (λ (z : Image). Plains code p z l c) (given y x (sym u ∙ t)) more) f in
+    let s = plains_one code p x b c k l rest e (subst (λ (z : Image). Plains code p z l c) (gives_same y x (sym u ∙ t)) more) f in
     record { image = s.image; count = ap (λ (j : ℕ). j + 1) s.count }
-
-kept_kind : (a : Image) (p : ℕ) (o : Outcome Image) (k l : FaultKind) → o ≡ faults k → o ≡ faults l → failed a p k ≡ failed a p l
-kept_kind a p o k l e f = let same : k ≡ l = cc in ap (failed a p) same
-
-differ_fault : (x : Image) (k : FaultKind) (A : Type 0) → gives x ≡ faults k → A
-differ_fault x k A e = cc
 
 differ_limit : (x : Image) → gives x ≡ limit → ⊥
 differ_limit x e = cc
@@ -51,7 +39,7 @@ fault_limit : (o : Outcome Image) (k : FaultKind) → o ≡ faults k → o ≡ l
 fault_limit o k e f = cc
 
 acts_one : (code : Code) (p : ℕ) (a b c : Image) → ProcessActs code p a b → ProcessActs code p a c → b ≡ c
-acts_one code p a b c (acts e t) (acts f u) = given b c (sym t ∙ u)
+acts_one code p a b c (acts e t) (acts f u) = gives_same b c (sym t ∙ u)
 acts_one code p a b c (acts e t) (fails kind u) = differ_fault b kind _ (sym t ∙ u)
 acts_one code p a b c (fails kind t) (acts f u) = differ_fault c kind _ (sym u ∙ t)
 acts_one code p a b c (fails k t) (fails l u) = kept_kind a p (table code a p) k l t u
@@ -89,11 +77,11 @@ not_past code p a quiet b img n m stay x stay = omega arith
 not_past code p a quiet b img n m stay x (go h t rest) = absurd (true≢false (sym h ∙ stuck code p a b x))
 not_past code p a quiet b img n m (go h t rest) x stay = omega arith
 not_past code p a quiet b img n m (go {b = u} {n = k} h t rest) x (go {b = v} {n = l} i s more) =
-    let le : l ≤ k = not_past code p u quiet b img k l rest x (subst (λ (z : Image). Plains code p z l img) (given v u (sym s ∙ t)) more) in omega (arith, le)
+    let le : l ≤ k = not_past code p u quiet b img k l rest x (subst (λ (z : Image). Plains code p z l img) (gives_same v u (sym s ∙ t)) more) in omega (arith, le)
 
 pub no_limit : (code : Code) (p : ℕ) (a quiet b img : Image) (n m : ℕ) → Plains code p a n quiet → ProcessActs code p quiet b → Plains code p a m img → table code img p ≡ limit → ⊥
 no_limit code p a quiet b img n m stay x stay e = acts_not_limit code p a b x e
 no_limit code p a quiet b img n m stay x (go h t rest) e = true≢false (sym h ∙ stuck code p a b x)
 no_limit code p a quiet b img n m (go {b = u} h t rest) x stay e = differ_limit u (sym t ∙ e)
 no_limit code p a quiet b img n m (go {b = u} {n = k} h t rest) x (go {b = v} {n = l} i s more) e =
-    no_limit code p u quiet b img k l rest x (subst (λ (z : Image). Plains code p z l img) (given v u (sym s ∙ t)) more) e
+    no_limit code p u quiet b img k l rest x (subst (λ (z : Image). Plains code p z l img) (gives_same v u (sym s ∙ t)) more) e

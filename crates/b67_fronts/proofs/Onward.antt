@@ -1,11 +1,12 @@
 -- From the front of a run onward.
-use Rattle.std.proofs.Common.{arith, ◌≡◌, ◌≢◌, refl, sym, ap, subst, ◌∙◌, ◌⊎◌, inl, inr, ℕ, zero, suc, ◌+◌, ◌-◌, ◌<◌, ◌≤◌, true, false, List, [], ◌∷◌, ◌++◌, length, reverse, replicate, sum, Option, Some, None, append_assoc, true≢false}
+use Rattle.std.proofs.Common.{arith, ◌≡◌, ◌≢◌, refl, sym, ap, subst, ◌∙◌, ◌⊎◌, inl, inr, ℕ, zero, suc, ◌+◌, ◌-◌, ◌<◌, ◌≤◌, true, List, [], ◌∷◌, ◌++◌, length, reverse, replicate, sum, None, append_assoc}
 use Rattle.std.proofs.lemmas.List.{reverse-reverse, reverse-append, length-reverse}
 use Rattle.std.proofs.lemmas.List.Sums.{sum_by-cons}
 use Rattle.b67_segment.specs.declared.code.Code.{Code}
 use Rattle.b67_table.specs.Image.{Image}
-use Rattle.b67_table.specs.Ending.{image_end, may_act, goes_on, ImageEnd}
+use Rattle.b67_table.specs.Ending.{image_end, may_act}
 use Rattle.b67_table.specs.Runs.{Plains, stay, go, RunEntry, Runs, entry, Tails, TableRun}
+use Rattle.b67_table.proofs.Cited.{history_within, no_tails, number_there}
 use Rattle.b67_fronts.specs.Fronts.{GoesThrough, tails_next, FrontsGoOn, FrontsAreRuns, RunsGoThroughAlike}
 use Rattle.b67_fronts.proofs.One.{SameRuns, runs_same, not_past, no_limit}
 
@@ -15,9 +16,6 @@ nowhere : (code : Code) (p n : ℕ) (a b : Image) → n ≡ 0 → Plains code p 
 nowhere code p n a b e stay = refl
 nowhere code p n a b e (go {n = k} h t rest) = absurd (omega (arith, e))
 
-no_tails : (code : Code) (k : ℕ) (a b : Image) → Tails code k a [] b → a ≡ b
-no_tails code k a b Tails.none = refl
-
 tails_so : (code : Code) (m k n : ℕ) (a b : Image) → Tails code k a (replicate m 0 ++ n ∷ []) b → Plains code (k + m) a n b
 tails_so code zero k n a b (Tails.next {b = x} r rest) =
     let here : k ≡ k + 0 = omega arith in
@@ -26,16 +24,6 @@ tails_so code (suc m) k n a b (Tails.next {b = x} r rest) =
     let there : k + 1 + m ≡ k + suc m = omega arith in
     subst (λ (j : ℕ). Plains code j a n b) there
     (subst (λ (z : Image). Plains code (k + 1 + m) z n b) (sym (nowhere code k 0 a x refl r)) (tails_so code m (k + 1) n x b rest))
-
--- a process that may act has a number
-pub numbers_able : (img : Image) (p : ℕ) → may_act img p ≡ true → 1 ≤ p
-unfolding may_act
-numbers_able img zero e = absurd (true≢false (sym e ∙ never (image_end img)))
-  where
-    never : (o : Option ImageEnd) → goes_on o false ≡ false
-    never None = refl
-    never (Some x) = refl
-numbers_able img (suc p) e = omega arith
 
 -- ---- the front of a run
 
@@ -51,12 +39,6 @@ front code (x ∷ xs) h counts img (entry {counts = c} {a = a} {n = n} r e) =
     let f = front code xs h c a r in
     let adds : sum ((n + 1) ∷ c) ≡ (n + 1) + sum c = sum_by-cons (λ (x : ℕ). x) (n + 1) c in
     record { counts = f.counts; image = f.image; runs = f.runs; less = omega (arith, f.less, adds) }
-
-few_entries : (code : Code) (h counts : List ℕ) (img : Image) → Runs code h counts img → length h ≤ sum counts
-few_entries code [] counts img r = omega arith
-few_entries code (p ∷ h) counts img (entry {counts = c} {a = a} {n = n} r e) =
-    let f : length h ≤ sum c = few_entries code h c a r in
-    let adds : sum ((n + 1) ∷ c) ≡ (n + 1) + sum c = sum_by-cons (λ (x : ℕ). x) (n + 1) c in omega (arith, f, adds)
 
 history_of : (h done : List ℕ) → done ≡ reverse h → h ≡ reverse done
 history_of h done e = sym (reverse-reverse h) ∙ ap reverse (sym e)
@@ -113,7 +95,7 @@ fronts_go_on code budget done p left tail image g r =
         (subst (λ (xs : List ℕ). Runs code xs r.counts r.before_tails) (history_of r.history done r.order) r.runs) n.runs
 
     number : 1 + (p - 1) ≡ p
-    number = omega (arith, numbers_able n.before p n.its.may)
+    number = omega (arith, number_there n.before p n.its.may)
 
     tails : Plains code p n.before tail image
     tails =
@@ -154,4 +136,4 @@ alike code budget schedule image g r = (by g.leaves, few)
 
     few : length schedule ≤ budget
     few =
-        omega (arith, few_entries code q.history q.counts q.before_tails q.runs, g.within, ap length (history_of q.history schedule q.order), length-reverse schedule)
+        omega (arith, history_within code q.history q.counts q.before_tails q.runs, g.within, ap length (history_of q.history schedule q.order), length-reverse schedule)

@@ -5,8 +5,6 @@ use Rattle.b67_control.specs.declared.Registers.{Registers}
 use Rattle.b67_store.specs.Store.{Stacks}
 use Rattle.b67_word.specs.declared.Place.{Place}
 use Rattle.b67_num.specs.declared.FaultKind.TheVariants.{ProcessLimit}
-use Rattle.b67_table.specs.Effect.{Effect}
-use Rattle.b67_table.specs.Effect as effects
 use Rattle.b67_table.specs.Chains.{place}
 use Rattle.b67_table.specs.Limits.{most_processes}
 use Rattle.b67_table.specs.Private.{frame}
@@ -15,23 +13,11 @@ use Rattle.b67_table.specs.Image.{Image}
 use Rattle.b67_table.specs.Look.{Look, look_seen}
 use Rattle.b67_table.specs.Program.{Test, answer, fault, asked, see, ◌>>=◌}
 use Rattle.b67_reach.specs.declared.Stop.{Stop}
-use Rattle.b67_reach.specs.declared.Stop.TheVariants.{Interrupt, Fault, StackLimit}
-use Rattle.b67_reach.specs.Answers.{whole_outcome, stopped, outcome_answered, looked}
-use Rattle.b67_reach.proofs.Looking.{asked_on, asked_then, after_test, tells_look}
+use Rattle.b67_reach.specs.declared.Stop.TheVariants.{Fault}
+use Rattle.b67_reach.specs.Answers.{whole_outcome, outcome_answered, looked}
+use Rattle.b67_reach.proofs.Looking.{asked_on, asked_then, tells_look, stops_test}
 use Rattle.b67_going.specs.Paths.{TestLeads}
 use Rattle.b67_going.specs.Starts.{started_first_registers, if_number}
-
-pub stops_test : {A B : Type 0} (img : Image) (e : Effect A) (next : A → Test B) (stop : Stop) → whole_outcome e ≡ stopped stop
-    → whole_outcome (after_test img e next) ≡ stopped stop
-stops_test img (effects.gives a) next (Interrupt kind) e = cc
-stops_test img (effects.gives a) next (Fault kind) e = cc
-stops_test img (effects.gives a) next StackLimit e = cc
-stops_test img (effects.faults k) next (Interrupt kind) e = cc
-stops_test img (effects.faults k) next (Fault kind) e = cc
-stops_test img (effects.faults k) next StackLimit e = cc
-stops_test img (effects.interrupts k) next (Interrupt kind) e = cc
-stops_test img (effects.interrupts k) next (Fault kind) e = cc
-stops_test img (effects.interrupts k) next StackLimit e = cc
 
 pub leads_then : {A B : Type 0} (t : Test A) (next : A → Test B) (a : A) (st : Stacks) (regs : List Registers) (r : Result B Stop)
     → TestLeads t st regs (Ok a) → TestLeads (next a) st regs r → TestLeads (t >>= next) st regs r

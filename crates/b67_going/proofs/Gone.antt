@@ -169,10 +169,6 @@ module _ (st : Stacks) (places : List Place) (r : Registers) (f : Place) where
       by (Ok p) e = cc
       by (Err kind) e = cc
 
-pub found_of : {A : Type 0} (y : Result A InterruptKind) (a : A) → Ok a ≡ looked y → y ≡ Ok a
-found_of (Ok b) a e = cc
-found_of (Err kind) a e = cc
-
 module _ (img : Image) (r : Registers) (t : going.Target) (p : ℕ) (next : Passing → List (Option Place) → Program) where
   abbrev may_stop : Passing → List (Option Place) → Program
   may_stop q d = if_same_stack r t.frame (if_not_critical r.stack (passed_frames q.frames) (next q d))

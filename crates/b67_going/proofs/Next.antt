@@ -1,6 +1,7 @@
 -- The number of the next process of a valid image is free.
-use Rattle.std.proofs.Common.{◌≡◌, refl, sym, ap, ◌∙◌, ℕ, zero, suc, ◌+◌, ◌≤◌, List, [], ◌∷◌, length, Option, Some, None, is_some, slice_get, false, arith}
+use Rattle.std.proofs.Common.{◌≡◌, refl, sym, ap, ◌∙◌, ℕ, zero, suc, ◌+◌, ◌≤◌, List, [], ◌∷◌, length, None, slice_get, arith}
 use Rattle.b67_list.specs.Numbered.{numbered}
+use Rattle.b67_list.proofs.Answered.{none_there}
 use Rattle.b67_table.specs.declared.ProcessState.{ProcessState}
 use Rattle.b67_table.specs.Image.{is_live}
 use Rattle.b67_going.specs.Laws.{ValidHaveNext}
@@ -14,10 +15,6 @@ past (x ∷ xs) (suc k) h = past xs k (omega (arith, h))
 not_yet : (xs : List ProcessState) (n : ℕ) → length xs ≡ n → numbered xs (n + 1) ≡ None
 not_yet xs n e =
     let one : n + 1 ≡ suc n = omega arith in ap (λ (i : ℕ). numbered xs i) one ∙ past xs n (omega (arith, e))
-
-none_there : {A : Type 0} (o : Option A) → is_some o ≡ false → o ≡ None
-none_there None e = refl
-none_there (Some a) e = absurd cc
 
 pub valid_have_next : ValidHaveNext
 valid_have_next code stacks rows kernel parts v = record {

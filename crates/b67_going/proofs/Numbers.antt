@@ -1,7 +1,8 @@
 -- The registers of one process among all.
-use Rattle.std.proofs.Common.{◌≡◌, refl, ap, ◌∙◌, ℕ, zero, suc, ◌-◌, ◌<◌, List, [], ◌∷◌, length, get_or, slice_get, slice_set, Some, arith}
+use Rattle.std.proofs.Common.{◌≡◌, ap, ◌∙◌, ℕ, zero, suc, ◌-◌, ◌<◌, List, [], ◌∷◌, length, get_or, slice_get, slice_set, Some, arith}
 use Rattle.b67_list.specs.Numbered.{numbered, set_numbered}
 use Rattle.b67_control.specs.declared.Registers.{Registers}
+use Rattle.b67_intrinsics.proofs.Pushing.{set_there}
 
 one_less : (k : ℕ) → suc k - 1 ≡ k
 one_less k = omega arith
@@ -17,12 +18,6 @@ get_is [] zero y d e = cc
 get_is [] (suc k) y d e = cc
 get_is (x ∷ xs) zero y d e = cc
 get_is (x ∷ xs) (suc k) y d e = get_is xs k y d e
-
-set_here : (xs : List Registers) (k : ℕ) (y x : Registers) → slice_get xs k ≡ Some y → slice_get (slice_set xs k x) k ≡ Some x
-set_here [] zero y x e = cc
-set_here [] (suc k) y x e = cc
-set_here (z ∷ xs) zero y x e = refl
-set_here (z ∷ xs) (suc k) y x e = set_here xs k y x e
 
 module _ (xs : List Registers) (p : ℕ) (y : Registers) where
   pub is_within : numbered xs p ≡ Some y → p - 1 < length xs
@@ -51,4 +46,4 @@ module _ (xs : List Registers) (p : ℕ) (y : Registers) where
     where
       by : (p : ℕ) (x : Registers) → numbered xs p ≡ Some y → numbered (set_numbered xs p x) p ≡ Some x
       by zero x e = cc
-      by (suc k) x e = set_here xs k y x e
+      by (suc k) x e = set_there xs k y x e

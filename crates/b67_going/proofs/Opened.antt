@@ -2,18 +2,20 @@
 use Rattle.std.proofs.Common.{◌≡◌, ◌≢◌, refl, sym, ap, subst, ◌∙◌, ℕ, zero, suc, ◌+◌, ◌<◌, ◌≤◌, List, [], ◌∷◌, ◌++◌, length, take, drop, set, slice_get, Option, Some, None, IsSome, is_some, arith}
 use Rattle.b67_word.specs.Word.{Word}
 use Rattle.b67_store.specs.Store.{Stacks, stack_at, words_of, words_or, with_stack, with_push, opened_at}
-use Rattle.b67_table.proofs.Lists.{set_there}
-use Rattle.b67_table.proofs.Stacks.{set_here, set_other, set_set_here, opened_other}
+use Rattle.b67_store.proofs.Cited.{put_there}
+use Rattle.b67_store.proofs.StoreLaws.{changed_others, opened_others as opened_other}
+use Rattle.b67_table.proofs.Stacks.{set_here}
+use Rattle.b67_list.proofs.Lists.{set_set_here}
 
 append_none : (xs : List Word) → xs ++ [] ≡ xs
 append_none [] = refl
 append_none (x ∷ xs) = ap (λ (z : List Word). x ∷ z) (append_none xs)
 
-append_twice : (xs ys zs : List Word) → (xs ++ ys) ++ zs ≡ xs ++ (ys ++ zs)
+pub append_twice : (xs ys zs : List Word) → (xs ++ ys) ++ zs ≡ xs ++ (ys ++ zs)
 append_twice [] ys zs = refl
 append_twice (x ∷ xs) ys zs = ap (λ (z : List Word). x ∷ z) (append_twice xs ys zs)
 
-one_taken : (ws : List Word) (i : ℕ) (w : Word) → slice_get ws i ≡ Some w → take i ws ++ w ∷ [] ≡ take (suc i) ws
+pub one_taken : (ws : List Word) (i : ℕ) (w : Word) → slice_get ws i ≡ Some w → take i ws ++ w ∷ [] ≡ take (suc i) ws
 one_taken [] zero w e = cc
 one_taken [] (suc i) w e = cc
 one_taken (x ∷ ws) zero w e = cc
@@ -39,13 +41,13 @@ module _ (st : Stacks) (n : ℕ) where
 
   -- nothing is pushed yet
   pub none_pushed : IsSome (stack_at st n) → st ≡ with_stack st n (words_of st n ++ [])
-  none_pushed s = sym (ap (λ (z : List Word). with_stack st n z) (append_none (words_of st n)) ∙ set_there st n (words_of st n) (is_there s))
+  none_pushed s = sym (ap (λ (z : List Word). with_stack st n z) (append_none (words_of st n)) ∙ put_there st n (words_of st n) (is_there s))
 
   pub own_words : (ws : List Word) → IsSome (stack_at st n) → stack_at (with_stack st n ws) n ≡ Some ws
   own_words ws s = set_here st n (words_of st n) ws (is_there s)
 
   pub other_words : (ws : List Word) (k : ℕ) → k ≢ n → words_of (with_stack st n ws) k ≡ words_of st k
-  other_words ws k h = ap words_or (set_other st n k (Some ws) h)
+  other_words ws k h = ap words_or (changed_others st n k (Some ws) h)
 
   pub one_pushed : (ws params : List Word) (first i : ℕ) (w : Word) → IsSome (stack_at st n) → slice_get params (first + i) ≡ Some w
       → with_push (with_stack st n (ws ++ take i (drop first params))) n w ≡ with_stack st n (ws ++ take (i + 1) (drop first params))

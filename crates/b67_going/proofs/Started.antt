@@ -12,6 +12,7 @@ use Rattle.b67_control.specs.declared.Registers.{Registers}
 use Rattle.b67_control.specs.Control.{as_pcw}
 use Rattle.b67_segment.specs.declared.code.Code.{Code}
 use Rattle.b67_store.specs.Store.{Stacks, Rows, stack_at, words_of, words_or, word_at, opened_at}
+use Rattle.b67_store.proofs.StoreLaws.{opened_others}
 use Rattle.b67_table.specs.declared.Cell.{Cell}
 use Rattle.b67_table.specs.declared.Reached.{Reached}
 use Rattle.b67_table.specs.declared.InterruptKind.TheVariants.{InvalidOperand}
@@ -30,19 +31,17 @@ use Rattle.b67_table.specs.Starting.{Starting, starting, task_in, task_of, if_fe
 use Rattle.b67_table.specs.Table.{stack_length}
 use Rattle.b67_table.specs.Writes as writes
 use Rattle.b67_table.specs.Writes.{write_made}
-use Rattle.b67_table.proofs.Stacks.{opened_other}
 use Rattle.b67_linkage.specs.Held.{IsLinked}
 use Rattle.b67_reach.specs.declared.Stop.{Stop}
 use Rattle.b67_reach.specs.declared.Stop.TheVariants.{Interrupt}
 use Rattle.b67_reach.specs.Answers.{whole_outcome, stopped, outcome_answered, looked, IsReady, ProgramActs}
-use Rattle.b67_reach.proofs.Looking.{asked_on, asked_then, tells_look, acts_then, acts_stop}
+use Rattle.b67_reach.proofs.Looking.{asked_on, asked_then, tells_look, acts_then, acts_stop, stops_test}
 use Rattle.b67_intrinsics.specs.Called.{arguments, mark_below, intrinsic_called, IsCalled}
 use Rattle.b67_intrinsics.proofs.Calling.{drop_at}
 use Rattle.b67_going.specs.declared.processes.Unstarted.TheVariants.{Stopped}
 use Rattle.b67_going.specs.declared.starts.Given.{Given}
 use Rattle.b67_going.specs.Paths.{some_words}
 use Rattle.b67_going.specs.Starts.{procedure_of, given_in, Beginning, beginning, beginning_in, started_first_registers, if_number, Starts, IsCalling}
-use Rattle.b67_going.proofs.Begins.{stops_test}
 
 -- ---- one test after another
 
@@ -100,9 +99,6 @@ task_is img r w None h = refl
 task_is img r w (Some (pos zero)) h = absurd (h refl)
 task_is img r w (Some (pos (suc n))) h = refl
 task_is img r w (Some (negsuc n)) h = refl
-
-pub not_both : (b : Bool) → b ≡ false → b ≡ true → ⊥
-not_both b e f = let no : false ≡ true = sym e ∙ f in cc
 
 module _ (img : Image) (r : Registers) (w : Word) where
   pub without_task : as_whole w ≡ Some (pos 0) → whole_outcome (asked img (task_of r w)) ≡ outcome_answered {A = Option Cell} (Ok None)
@@ -299,7 +295,7 @@ ready st rows r x = record { level = x.level; opened = x.opened; size = x.size; 
 -- a stack that is opened beside the process's own changes nothing for it
 pub still_called : (st new : Stacks) (r : Registers) (n : ℕ) (ws : List Word) → IsReady st r → r.f + 2 ≤ r.s → r.stack ≢ n → new ≡ opened_at st n ws → IsCalled new (Some r)
 still_called st new r n ws x h k e =
-    let same : stack_at new r.stack ≡ stack_at st r.stack = ap (λ (z : Stacks). stack_at z r.stack) e ∙ opened_other st n r.stack ws k in
+    let same : stack_at new r.stack ≡ stack_at st r.stack = ap (λ (z : Stacks). stack_at z r.stack) e ∙ opened_others st n r.stack ws k in
     (record { level = x.level; opened = ap is_some same ∙ x.opened; size = x.size ∙ sym (ap (λ (o : Option (List Word)). length (words_or o)) same); room = x.room }, h)
 
 pub other_number : (st : Stacks) (r : Registers) (n : ℕ) → IsReady st r → stack_at st n ≡ None → r.stack ≢ n

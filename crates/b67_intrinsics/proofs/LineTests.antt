@@ -84,9 +84,6 @@ may_exit {A = A} img tests (Err h) stop e x = subst (λ (k : Hindrance). MayLead
 
 -- ---- the line that is given
 
-pub line_is : (code : Code) (words : List Word) (zs : List ℤ) (o : Option (List ℕ)) → wholes_in words ≡ Some zs → o ≡ line_for code zs → line_in code (wholes_in words) ≡ o
-line_is code words zs o e f = ap (line_in code) e ∙ sym f
-
 pub given_exit : (code : Code) (words : List Word) (res : Result (List ℕ) Hindrance) (h : Hindrance) → WholesFail words h → IsErrAnd res (λ e. e ≡ h) → LineGiven code words res
 given_exit code words (Ok a) h fail e = absurd e
 given_exit code words (Err i) h fail e = subst (λ (k : Hindrance). LineGiven code words (Err k)) (sym e) (by h fail)

@@ -5,6 +5,7 @@ use Rattle.std.specs.Prelude.{map, if◌then◌else◌, ◌==◌, ◌||◌}
 use Rattle.std.proofs.lemmas.Bool.{eqb-true}
 use Rattle.b67_list.specs.Numbered.{numbered, set_numbered}
 use Rattle.b67_word.specs.Word.{Word}
+use Rattle.b67_word.proofs.Cited.{one_longer}
 use Rattle.b67_control.specs.declared.Descriptor.{Descriptor}
 use Rattle.b67_control.specs.declared.Mscw.{Mscw}
 use Rattle.b67_control.specs.declared.Registers.{Registers}
@@ -18,7 +19,6 @@ use Rattle.b67_table.specs.Effect.{Effect}
 use Rattle.b67_table.specs.Effect as effects
 use Rattle.b67_table.specs.Image.{Image, with_rows, with_stacks}
 use Rattle.b67_table.specs.Intrinsics.{Wanted, intrinsic_wanted, arrays, extents}
-use Rattle.b67_table.specs.Look as look
 use Rattle.b67_table.specs.Look.{Look, look_seen, valid, ◌>->◌}
 use Rattle.b67_table.specs.Outcome.{gives, limit, limited}
 use Rattle.b67_table.specs.Program.{Program, Change, answer, asked, changed, done, registers, see, ◌>>=◌}
@@ -47,11 +47,6 @@ at_most n h = by (n == 3) (n == 5) refl refl h
     by true c e f h = omega (arith, eqb-true n 3 e)
     by false true e f h = omega (arith, eqb-true n 5 f)
     by false false e f h = cc
-
-counted : (st : Stacks) (o : Option ℕ) (bounds : List ℤ) (zs : List ℤ) → drop 1 zs ≡ bounds
-    → looked (look_seen st (valid o >-> (λ (n : ℕ). look.found (record { count = n; bounds = bounds })))) ≡ order_in zs o
-counted st None bounds zs e = refl
-counted st (Some n) bounds zs e = ap (λ (b : List ℤ). Ok (record { count = n; bounds = b })) (sym e)
 
 some_same : (a b : ℤ) → Some a ≡ Some b → a ≡ b
 some_same a b e = cc
@@ -192,10 +187,6 @@ array_goes (two m n) p img =
     let more = rows_go m address 0 n p (with_rows img (opened_at img.rows address (zero_row m false))) in
     (array_word true m address, more.0, λ next. more.1 (next (array_word true m address)))
 
-more_words : (made : List Word) (w : Word) → length (made ++ w ∷ []) ≡ length made + 1
-more_words [] w = refl
-more_words (v ∷ made) w = omega (arith, more_words made w)
-
 -- so many arrays are made, whatever comes after
 arrays_go : (k : ℕ) (e : Extents) (made : List Word) (p : ℕ) (img : Image)
     → (words : List Word) × (rows : Rows) × (length words ≡ length made + k) × ((next : List Word → Change) → changed p (arrays_made k e made next) img ≡ changed p (next words) (with_rows img rows))
@@ -203,7 +194,7 @@ arrays_go zero e made p img = (made, img.rows, omega arith, λ next. refl)
 arrays_go (suc k) e made p img =
     let first = array_goes e p img in
     let more = arrays_go k e (made ++ first.0 ∷ []) p (with_rows img first.1) in
-    let size : length more.0 ≡ length made + suc k = omega (arith, more.2, more_words made first.0) in
+    let size : length more.0 ≡ length made + suc k = omega (arith, more.2, one_longer made first.0) in
     (more.0, more.1, size, λ next. first.2 (λ (w : Word). arrays_made k e (made ++ w ∷ []) next) ∙ more.3 next)
 
 -- a stack that would be too long

@@ -40,7 +40,7 @@ within_most n e =
     let parts = and_parts (nat_le 1 n) (nat_le n most_events) e in
     (leb-true 1 n parts.0, leb-true n most_events parts.1)
 
-none_left : (words : List Word) (n : ℕ) → length words ≤ n → drop n words ≡ []
+pub none_left : (words : List Word) (n : ℕ) → length words ≤ n → drop n words ≡ []
 none_left [] zero h = refl
 none_left [] (suc n) h = refl
 none_left (w ∷ words) zero h = absurd (omega (arith, h))

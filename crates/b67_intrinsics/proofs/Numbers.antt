@@ -1,6 +1,6 @@
 -- The arguments, read one after another as whole numbers.
 use Rattle.std.specs.Result.{IsErrAnd}
-use Rattle.std.proofs.Common.{◌≡◌, refl, sym, ap, subst, ◌∙◌, ℕ, zero, suc, ◌+◌, ◌≤◌, ℤ, List, [], ◌∷◌, ◌++◌, length, drop, Option, Some, None, Result, Ok, Err, slice_get, append_assoc, append-nil, arith}
+use Rattle.std.proofs.Common.{◌≡◌, refl, sym, ap, subst, ◌∙◌, ℕ, suc, ◌+◌, ◌≤◌, ℤ, List, [], ◌∷◌, ◌++◌, length, drop, Option, Some, None, Result, Ok, Err, slice_get, append_assoc, append-nil, arith}
 use Rattle.std.specs.Prelude.{IfErr}
 use Rattle.b67_word.specs.Word.{Word, as_whole}
 use Rattle.b67_table.specs.declared.InterruptKind.TheVariants.{InvalidOperand}
@@ -11,6 +11,7 @@ use Rattle.b67_intrinsics.specs.declared.hindrance.Hindrance.{Hindrance}
 use Rattle.b67_intrinsics.specs.declared.hindrance.Hindrance.TheVariants.{Stopped}
 use Rattle.b67_intrinsics.specs.Called.{whole_in, whole_answer, WholesFail}
 use Rattle.b67_intrinsics.proofs.Calling.{drop_at}
+use Rattle.b67_intrinsics.proofs.ManyEvents.{none_left}
 
 abbrev pub with_rest : List ℤ → Option (List ℤ) → Option (List ℤ)
 with_rest zs None = None
@@ -46,15 +47,9 @@ read_next words zs z n e read = by (slice_get words n) refl e
         ∙ ap (λ (o : Option ℤ). with_rest zs (arguments_joined o (wholes_in (drop (suc n) words)))) (whole_is (as_whole w) z e)
         ∙ one_read zs z (wholes_in (drop (suc n) words)) ∙ ap (λ (k : ℕ). with_rest (zs ++ z ∷ []) (wholes_in (drop k words))) next
 
-no_words_left : (words : List Word) (n : ℕ) → length words ≤ n → drop n words ≡ []
-no_words_left [] zero h = refl
-no_words_left [] (suc n) h = refl
-no_words_left (w ∷ words) zero h = absurd (omega (arith, h))
-no_words_left (w ∷ words) (suc n) h = no_words_left words n (omega (arith, h))
-
 pub read_whole : (words : List Word) (zs : List ℤ) (n : ℕ) → length words ≤ n → AreRead words zs n → wholes_in words ≡ Some zs
 read_whole words zs n h read =
-    read ∙ ap (λ (ws : List Word). with_rest zs (wholes_in ws)) (no_words_left words n h) ∙ ap Some (append-nil zs)
+    read ∙ ap (λ (ws : List Word). with_rest zs (wholes_in ws)) (none_left words n h) ∙ ap Some (append-nil zs)
 
 -- ---- the exits
 

@@ -29,10 +29,6 @@ pushed_words st n w opened = ap words_or (changed_here st n (words_of st n ++ w 
 pub still_open : (st : Stacks) (n : ℕ) (w : Word) → IsSome (stack_at st n) → IsSome (stack_at (with_push st n w) n)
 still_open st n w opened = subst (λ (o : Option (List Word)). IsSome o) (sym (changed_here st n (words_of st n ++ w ∷ []) opened)) refl
 
-pub one_longer : (ws : List Word) (w : Word) → length (ws ++ w ∷ []) ≡ length ws + 1
-one_longer [] w = refl
-one_longer (v ∷ ws) w = omega (arith, one_longer ws w)
-
 -- ---- the words that are left
 
 pub left_at : (xs : List Descriptor) (n : ℕ) (x : Descriptor) → slice_get xs n ≡ Some x → drop n xs ≡ x ∷ drop (n + 1) xs
@@ -65,7 +61,7 @@ pub pushed_is : (p : ℕ) (n : ℕ) (ws : List Word) (next : Change) (img : Imag
 pushed_is p n [] next img = refl
 pushed_is p n (w ∷ ws) next img = pushed_is p n ws next (with_stacks img (with_push img.stacks n w))
 
-set_there : (xs : List Registers) (k : ℕ) (x y : Registers) → slice_get xs k ≡ Some x → slice_get (set xs k y) k ≡ Some y
+pub set_there : (xs : List Registers) (k : ℕ) (x y : Registers) → slice_get xs k ≡ Some x → slice_get (set xs k y) k ≡ Some y
 set_there [] k x y e = cc
 set_there (z ∷ zs) zero x y e = refl
 set_there (z ∷ zs) (suc k) x y e = set_there zs k x y e

@@ -1,6 +1,6 @@
 -- What an intrinsic that makes something does, step by step.
 use Rattle.std.specs.Result.{IsErrAnd}
-use Rattle.std.proofs.Common.{◌≡◌, ◌≢◌, refl, sym, ap, subst, ◌∙◌, ℕ, List, [], ◌∷◌, length, Option, Some, None, Result, Ok, Err}
+use Rattle.std.proofs.Common.{◌≡◌, refl, sym, ap, subst, ◌∙◌, ℕ, List, [], ◌∷◌, Option, Some, None, Result, Ok, Err}
 use Rattle.b67_word.specs.declared.Place.{Place}
 use Rattle.b67_word.specs.Word.{Word}
 use Rattle.b67_control.specs.declared.Mscw.{Mscw}
@@ -8,7 +8,6 @@ use Rattle.b67_control.specs.declared.Registers.{Registers}
 use Rattle.b67_control.specs.Control.{event_word}
 use Rattle.b67_segment.specs.declared.code.Code.{Code}
 use Rattle.b67_table.specs.Arguments.{finished_at, no_such}
-use Rattle.b67_table.specs.Chains.{place}
 use Rattle.b67_table.specs.Effect.{Effect}
 use Rattle.b67_table.specs.Image.{Image}
 use Rattle.b67_table.specs.Intrinsics.{make_event}
@@ -19,8 +18,6 @@ use Rattle.b67_table.specs.Table.{stack_length}
 use Rattle.b67_table.specs.Writes as writes
 use Rattle.b67_table.specs.Writes.{write_made}
 use Rattle.b67_reach.specs.declared.Stop.{Stop}
-use Rattle.b67_reach.specs.declared.Stop.TheVariants.{Interrupt}
-use Rattle.b67_table.specs.declared.InterruptKind.TheVariants.{InvalidOperand}
 use Rattle.b67_reach.specs.Answers.{ProgramActs, outcome_answered, looked, stopped, whole_outcome}
 use Rattle.b67_reach.proofs.Looking.{asked_on, tells_look, acts_then, acts_stop}
 use Rattle.b67_intrinsics.specs.declared.hindrance.Hindrance.{Hindrance}
@@ -78,22 +75,6 @@ pub told_look : {A : Type 0} (img : Image) (l : Look A) (r : Result A Stop) → 
 told_look img l r e = (tells_look l img.stacks img.rows r e).told img refl refl
 
 -- ---- EVENT
-
--- there are arguments
-pub too_many : (img : Image) (r : Registers) (m : Mscw) (words : List Word) → length words ≢ 0 → IntrinsicLeads {A = Place} img (mark_tests r m words) (Err (Interrupt InvalidOperand))
-too_many img r m [] h = absurd (h refl)
-too_many img r m (w ∷ words) h = λ p next. record { outcome = refl; stays = refl }
-
-nothing : (words : List Word) → length words ≡ 0 → words ≡ []
-nothing [] h = refl
-nothing (w ∷ words) h = cc
-
-module _ (img : Image) (r : Registers) (m : Mscw) (words : List Word) (none : length words ≡ 0) where
-  in_none : (res : Result Place Stop) → IntrinsicLeads img (mark_tests r m []) res → IntrinsicLeads img (mark_tests r m words) res
-  in_none res x = subst (λ (ws : List Word). IntrinsicLeads img (mark_tests r m ws) res) (sym (nothing words none)) x
-
-  abbrev there : Mscw → (Place → Program) → Program
-  there lower next = next (place r.stack r.f)
 
 -- what comes after the tests
 abbrev pub opening : Option Registers → Mscw → ℕ → Place → Program

@@ -1,5 +1,5 @@
 -- How often a process is among those who join.
-use Rattle.std.proofs.Common.{◌≡◌, ◌≢◌, refl, sym, ap, subst, ◌∙◌, ℕ, zero, suc, ◌+◌, ◌≤◌, Bool, true, false, List, [], ◌∷◌, ◌++◌, length, length-append, append_assoc, arith}
+use Rattle.std.proofs.Common.{◌≡◌, ◌≢◌, refl, sym, ap, subst, ◌∙◌, ℕ, zero, suc, ◌+◌, ◌≤◌, Bool, true, false, List, [], ◌∷◌, ◌++◌, length, length-append, arith}
 use Rattle.std.proofs.Math.Decide.{ℕ_discrete}
 use Rattle.b67_table.specs.Beginning.{first_image}
 use Rattle.b67_table.specs.Image.{Image}
@@ -14,12 +14,6 @@ actor_own false p = refl
 actor_other : (able : Bool) (p q : ℕ) → q ≢ p → number_times q (if_able able p) ≡ 0
 actor_other true p q h = let none = elsewhere q p h in omega (arith, none)
 actor_other false p q h = refl
-
--- in whatever order they are put together
-pub put_together : (waiting released new actor : List ℕ) → waiting ++ released ++ new ++ actor ≡ waiting ++ (released ++ new ++ actor)
-put_together waiting released new actor =
-    append_assoc (waiting ++ released) new actor ∙ append_assoc waiting released (new ++ actor)
-    ∙ ap (λ (zs : List ℕ). waiting ++ zs) (sym (append_assoc released new actor))
 
 module _ (before : ℕ) (after : Image) (p : ℕ) (released : List ℕ) where
   joining_times : (q : ℕ) → number_times q (joining before after p released)

@@ -1,8 +1,7 @@
 -- How often a process stands in a list.
-use Rattle.std.specs.Prelude.{filter, nat_lt, if◌then◌else◌}
-use Rattle.std.proofs.Common.{◌≡◌, ◌≢◌, refl, ap, ◌∙◌, ℕ, zero, suc, ◌+◌, ◌≤◌, ◌<◌, ◌==◌, Bool, true, false, cond, List, [], ◌∷◌, ◌++◌, length, arith}
+use Rattle.std.proofs.Common.{◌≡◌, ◌≢◌, refl, ap, ℕ, zero, suc, ◌+◌, ◌≤◌, ◌<◌, ◌==◌, Bool, true, false, List, [], ◌∷◌, ◌++◌, length, arith}
 use Rattle.std.proofs.Math.Decide.{ℕ_discrete}
-use Rattle.std.proofs.lemmas.Bool.{eq-eqb, ne_eqb, leb-true}
+use Rattle.std.proofs.lemmas.Bool.{eq-eqb, ne_eqb}
 use Rattle.b67_action.specs.Able.{number_times, one_if}
 
 pub here : (q p : ℕ) → q ≡ p → one_if (q == p) ≡ 1
@@ -33,26 +32,7 @@ times_most q (x ∷ xs) = let rest = times_most q xs in omega (arith, rest, one_
 
 -- ---- what a test keeps
 
-pub none_kept : (f : ℕ → Bool) (xs : List ℕ) → ((q : ℕ) → 1 ≤ number_times q xs → f q ≡ false) → filter f xs ≡ []
-none_kept f [] h = refl
-none_kept f (x ∷ xs) h =
-    let own = here x x refl in
-    ap (λ (b : Bool). cond b (x ∷ filter f xs) (filter f xs)) (h x (omega (arith, own)))
-    ∙ none_kept f xs (λ q k. h q (omega (arith, k)))
-
-pub all_kept : (f : ℕ → Bool) (xs : List ℕ) → ((q : ℕ) → 1 ≤ number_times q xs → f q ≡ true) → filter f xs ≡ xs
-all_kept f [] h = refl
-all_kept f (x ∷ xs) h =
-    let own = here x x refl in
-    ap (λ (b : Bool). cond b (x ∷ filter f xs) (filter f xs)) (h x (omega (arith, own)))
-    ∙ ap (λ (zs : List ℕ). x ∷ zs) (all_kept f xs (λ q k. h q (omega (arith, k))))
-
 -- ---- the process that was started
-
-pub not_newly : (q n m : ℕ) (b : Bool) → nat_lt n m ≡ b → q ≤ n → number_times q (if b then m ∷ [] else []) ≡ 0
-not_newly q n m true e h =
-    let none = elsewhere q m (λ s. omega (arith, s, h, leb-true (suc n) m e)) in omega (arith, none)
-not_newly q n m false e h = refl
 
 -- ---- lists in which each number stands once at most
 

@@ -1,5 +1,5 @@
 -- A walk over a schedule in a world that runs beside that of the meaning.
-use Rattle.std.proofs.Common.{arith, ◌≡◌, ◌⊎◌, inl, inr, refl, sym, ap, ◌∙◌, subst, ℕ, zero, ◌+◌, ◌<◌, ◌≤◌, Bool, true, false, List, [], length, drop, get_or, replicate, Some, length-append}
+use Rattle.std.proofs.Common.{arith, ◌≡◌, ◌⊎◌, inl, inr, sym, ap, ◌∙◌, subst, ℕ, zero, ◌+◌, ◌<◌, ◌≤◌, Bool, true, false, List, [], length, drop, get_or, replicate, Some, length-append}
 use Rattle.std.specs.Prelude.{Result, Ok, Err, IfOk}
 use Rattle.algol_front.proofs.Ordered.{IsSource}
 use Rattle.algol_tree.specs.Plain.{PProgram}
@@ -20,12 +20,13 @@ use Rattle.algol_lean.proofs.Doing.{ends_lean}
 use Rattle.algol_lean.proofs.Steps.{source_beside}
 use Rattle.b67_schedule.specs.declared.Run.{Run}
 use Rattle.b67_schedule.specs.Schedules.{entries}
+use Rattle.b67_schedule.proofs.Cited.{entries_drop}
 use Rattle.b67_report.specs.declared.EndWords.{EndWords}
 use Rattle.b67_report.specs.declared.EndWords.TheVariants as ends
 use Rattle.b67_judge.specs.Judging.{EndFits}
 use Rattle.b67_judge.specs.Walked.{WentBeside, GoesAsFar, StopsAt, WalksBeside}
 use Rattle.b67_judge.specs.declared.walking.Walked.TheVariants.{Whole, Stopped}
-use Rattle.b67_judge.proofs.Steps.{went_more, stays_so, Stands, stands_first, walk_more, walk_stops, whole_so, entries_drop, length_replicate}
+use Rattle.b67_judge.proofs.Steps.{went_more, stays_so, Stands, stands_first, walk_more, walk_stops, whole_so, length_replicate}
 
 -- ---- the first world
 
@@ -42,9 +43,6 @@ pub goes_by : (s : Stepped) → ((a : Acted) × (s ≡ stepped.Went a)) ⊎ ((a 
 goes_by s (inl (a, is)) = ap is_going is
 goes_by s (inr (a, is)) = ap is_going is
 
-pub goes_none : (sc : Scopes) (w now : World) (p : ℕ) → RunsBeside sc w now → WentBeside sc w 0 p now
-goes_none sc w now p b = record { after = w; went = refl; beside = b }
-
 module _ (sc sc' : Scopes) (w now after : World) (n p : ℕ) (s : Stepped) (same : sc' ≡ sc) (t : WentBeside sc w n p now)
     (steps : (v : World) → RunsBeside sc' v now → StepsBeside sc' v p after s) where
   next : StepsBeside sc t.after p after s
@@ -59,10 +57,6 @@ module _ (sc sc' : Scopes) (w now after : World) (n p : ℕ) (s : Stepped) (same
         goes = record { after = next.after; went = t.went ∙ ap Some (sym (next.still stays)); beside = next.beside };
         stays = λ less. ap (λ (v : World). may_go v p) (next.still stays) ∙ stays_so sc t.after next.after p s next.step stays;
       }
-
--- all of them went
-pub goes_all : (sc : Scopes) (w now : World) (n times p : ℕ) → WentBeside sc w n p now → (n < times → ⊥) → GoesAsFar sc w n times p now
-goes_all sc w now n times p t all = record { goes = t; stays = λ less. absurd (all less) }
 
 -- ---- run by run
 

@@ -1,27 +1,23 @@
 -- A report has one verdict.
-use Rattle.std.proofs.Common.{arith, ◌≡◌, ◌⊎◌, inl, inr, refl, ap, sym, ◌∙◌, subst, ℕ, zero, suc, ◌+◌, ◌<◌, if◌then◌else◌, Bool, false, List, [], ◌∷◌, ◌++◌, length, take, Option, Some, None, slice_get}
+use Rattle.std.proofs.Common.{arith, ◌≡◌, ◌⊎◌, inl, inr, refl, ap, sym, ◌∙◌, subst, ℕ, zero, suc, ◌+◌, ◌<◌, false, List, [], ◌∷◌, ◌++◌, length, take, Option, Some, None, slice_get}
 use Rattle.algol_tree.specs.Plain.{PProgram}
-use Rattle.algol_tree.specs.Scopes.{Scopes, scopes_of}
+use Rattle.algol_tree.specs.Scopes.{scopes_of}
 use Rattle.algol_meaning.specs.World.{World}
-use Rattle.algol_meaning.specs.Choice.{choice}
-use Rattle.algol_meaning.specs.Run.{may_go, after_entry, run, run_from, start}
+use Rattle.algol_meaning.specs.Run.{may_go, run, run_from, start}
+use Rattle.algol_meaning.proofs.Cited.{no_world, run_none, stays_none}
 use Rattle.b67_schedule.specs.Schedules.{entries}
 use Rattle.b67_report.specs.declared.Report.{Report}
+use Rattle.algol_lean.proofs.InUse.{run_is}
 use Rattle.b67_judge.specs.declared.Verdict.{Verdict}
 use Rattle.b67_judge.specs.declared.Verdict.TheVariants.{Just, BadEntry, BadLine, BadEnd}
 use Rattle.b67_judge.specs.Judging.{EndFits, HasOutput, IsJust, IsFirstIllegal, IsFirstOther, IsOtherLine, IsOtherEnd, Judges}
 use Rattle.b67_judge.specs.Laws.{ReportsHaveOneVerdict}
-use Rattle.b67_judge.proofs.Steps.{run_none, run_append}
-use Rattle.b67_judge.proofs.Verdicts.{run_is}
+use Rattle.b67_judge.proofs.Steps.{run_append}
 
 which : (m n : ℕ) → (m < n) ⊎ ((n < m) ⊎ (m ≡ n))
 which m n = grind arith
 
 -- ---- schedules
-
-stays_none : (sc : Scopes) (v : World) (p : ℕ) → may_go v p ≡ false → after_entry sc v p ≡ None
-unfolding after_entry
-stays_none sc v p e = ap (λ (b : Bool). if b then Some ((choice sc v p).world) else None) e
 
 -- no schedule is legal that goes on with an entry which may not go
 no_further : (tree : PProgram) (done left : List ℕ) (p : ℕ) (v : World) → run tree done ≡ Some v → may_go v p ≡ false → run tree (done ++ p ∷ left) ≡ None
@@ -31,9 +27,6 @@ no_further tree done left p v legal stays =
     ∙ ap (λ (o : Option World). run_from (scopes_of tree) (p ∷ left) o) (sym (run_is tree done) ∙ legal)
     ∙ ap (λ (o : Option World). run_from (scopes_of tree) left o) (stays_none (scopes_of tree) v p stays)
     ∙ run_none (scopes_of tree) left
-
-no_world : {v : World} → None ≡ Some v → ⊥
-no_world e = cc
 
 pub illegal_no_run : (tree : PProgram) (given : List ℕ) (number : ℕ) (v : World) → IsFirstIllegal tree given number → run tree given ≡ Some v → ⊥
 illegal_no_run tree given number v a e =

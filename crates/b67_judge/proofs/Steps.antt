@@ -1,21 +1,20 @@
 -- A schedule, run by run.
-use Rattle.std.proofs.Common.{arith, ◌≡◌, refl, ap, sym, ◌∙◌, subst, ℕ, zero, suc, ◌+◌, ◌-◌, ◌<◌, ◌≤◌, if◌then◌else◌, Bool, true, false, List, [], ◌∷◌, ◌++◌, length, drop, get_or, replicate, Option, Some, None, append_assoc, append-nil, length-append, drop-cons}
+use Rattle.std.proofs.Common.{arith, ◌≡◌, refl, ap, sym, ◌∙◌, subst, ℕ, zero, suc, ◌+◌, ◌-◌, ◌<◌, ◌≤◌, if◌then◌else◌, Bool, true, false, List, [], ◌∷◌, ◌++◌, length, drop, get_or, replicate, Option, Some, None, append_assoc, append-nil, length-append}
 use Rattle.algol_tree.specs.Scopes.{Scopes}
 use Rattle.algol_meaning.specs.World.{World}
 use Rattle.algol_meaning.specs.Choice.{Choice, choice}
 use Rattle.algol_meaning.specs.Run.{End, end_of, may_go, after_entry, run_from}
+use Rattle.algol_meaning.proofs.Cited.{run_none}
 use Rattle.algol_run.specs.Stepping.{RunStep, ended, not_able, went, chosen_by, step_by, step_of, told_step, is_going}
 use Rattle.algol_run.specs.declared.stepping.Stepped.{Stepped}
 use Rattle.algol_run.specs.declared.stepping.Stepped.TheVariants as stepped
 use Rattle.b67_schedule.specs.declared.Run.{Run}
 use Rattle.b67_schedule.specs.Schedules.{entries}
+use Rattle.b67_schedule.proofs.Cited.{entries_drop}
+use Rattle.b67_list.proofs.Numbers.{replicate_parts}
 use Rattle.b67_judge.specs.Walked.{StopsAt}
 
 -- ---- runs one after another
-
-pub run_none : (sc : Scopes) (h : List ℕ) → run_from sc h None ≡ None
-run_none sc [] = refl
-run_none sc (p ∷ h) = refl
 
 pub run_append : (sc : Scopes) (a b : List ℕ) (o : Option World) → run_from sc (a ++ b) o ≡ run_from sc b (run_from sc a o)
 run_append sc [] b None = refl
@@ -117,10 +116,6 @@ stands_more sc given w now after count n p left s e =
           let c : count ≡ length s.done = s.is in omega (arith, l, r, c);
     }
 
-replicate_split : (n m p : ℕ) → replicate (n + m) p ≡ replicate n p ++ replicate m p
-replicate_split zero m p = let r : zero + m ≡ m = omega arith in ap (λ (k : ℕ). replicate k p) r
-replicate_split (suc n) m p = let r : suc n + m ≡ suc (n + m) = omega arith in ap (λ (k : ℕ). replicate k p) r ∙ ap (λ (xs : List ℕ). p ∷ xs) (replicate_split n m p)
-
 -- some of a run, and one of it is left at least
 pub stands_within :
     (sc : Scopes) (given : List ℕ) (w now after : World) (count n times p : ℕ) (left : List ℕ) → n < times → Stands sc given w now count (replicate times p ++ left)
@@ -135,13 +130,10 @@ stands_within sc given w now after count n times p left less s e =
     parts : replicate times p ++ left ≡ replicate n p ++ (p ∷ replicate (times - n - 1) p ++ left)
     parts =
         ap (λ (k : ℕ). replicate k p ++ left) rest
-        ∙ ap (λ (xs : List ℕ). xs ++ left) (replicate_split n (suc (times - n - 1)) p)
+        ∙ ap (λ (xs : List ℕ). xs ++ left) (replicate_parts n (suc (times - n - 1)) p)
         ∙ append_assoc (replicate n p) (p ∷ replicate (times - n - 1) p) left
 
 -- ---- the ends of a walk
-
-pub entries_drop : (runs : List Run) (i : ℕ) (d : Run) → i < length runs → entries (drop i runs) ≡ replicate ((get_or runs i d).times) ((get_or runs i d).process) ++ entries (drop (i + 1) runs)
-entries_drop runs i d l = let next : suc i ≡ i + 1 = omega arith in ap entries (drop-cons runs i d l ∙ ap (λ (n : ℕ). get_or runs i d ∷ drop n runs) next)
 
 pub stops_so :
     (sc : Scopes) (given : List ℕ) (w now after : World) (count n times p : ℕ) (left : List ℕ) → n < times → Stands sc given w now count (replicate times p ++ left)

@@ -1,17 +1,14 @@
 -- From a walk to a verdict.
-use Rattle.std.proofs.Common.{◌≡◌, refl, ◌∙◌, ℕ, List, length, Some}
+use Rattle.std.proofs.Common.{◌≡◌, ◌∙◌, ℕ, length, Some}
 use Rattle.algol_tree.specs.Plain.{PProgram}
 use Rattle.algol_tree.specs.Scopes.{scopes_of}
 use Rattle.algol_meaning.specs.World.{World}
-use Rattle.algol_meaning.specs.Run.{run, run_from, start}
+use Rattle.algol_meaning.specs.Run.{run_from, start}
 use Rattle.b67_schedule.specs.Schedules.{entries}
 use Rattle.b67_report.specs.declared.Report.{Report}
+use Rattle.algol_lean.proofs.InUse.{run_is}
 use Rattle.b67_judge.specs.Judging.{EndFits, HasOutput, IsJust, IsFirstIllegal, IsFirstOther, IsOtherLine, IsOtherEnd}
 use Rattle.b67_judge.specs.Walked.{StopsAt}
-
-pub run_is : (tree : PProgram) (h : List ℕ) → run tree h ≡ run_from (scopes_of tree) h (Some (start (scopes_of tree)))
-unfolding run
-run_is tree h = refl
 
 module _ (tree : PProgram) (report : Report) (w : World) where
   pub bad_entry : (number : ℕ) → StopsAt (scopes_of tree) (entries report.schedule.runs) (start (scopes_of tree)) w number → IsFirstIllegal tree (entries report.schedule.runs) number
@@ -30,5 +27,3 @@ module _ (tree : PProgram) (report : Report) (w : World) where
 
     pub bad_end : report.output ≡ w.output → (EndFits w (length (entries report.schedule.runs)) report.end → ⊥) → IsOtherEnd tree report
     bad_end same other = record { has = has_output same; other = other }
-
-pub ruleset verdict_laws = (bad_entry, bad_line, just, bad_end)

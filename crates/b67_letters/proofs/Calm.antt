@@ -102,13 +102,13 @@ each_as P Q f (interrupt kind) k = tt
 each_as P Q f (fault kind) k = tt
 each_as P Q f (ask q more) k = λ a. each_as P Q f (more a) (k a)
 
-each_then : {A : Type 0} (P : Change → Type 0) (t : Test A) (f : A → Program) → ((a : A) → Each P (f a)) → Each P (t >>= f)
+pub each_then : {A : Type 0} (P : Change → Type 0) (t : Test A) (f : A → Program) → ((a : A) → Each P (f a)) → Each P (t >>= f)
 each_then P (answer a) f k = k a
 each_then P (interrupt kind) f k = tt
 each_then P (fault kind) f k = tt
 each_then P (ask q more) f k = λ a. each_then P (more a) f k
 
-each_if : (P : Change → Type 0) (b : Bool) (t u : Program) → Each P t → Each P u → Each P (cond b t u)
+pub each_if : (P : Change → Type 0) (b : Bool) (t u : Program) → Each P t → Each P u → Each P (cond b t u)
 each_if P true t u k l = k
 each_if P false t u k l = l
 

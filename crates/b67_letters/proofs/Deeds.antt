@@ -19,6 +19,3 @@ deed_letters woken (tests test.Happened) e = refl
 deed_letters woken (tests test.Available) e = refl
 deed_letters woken (tests test.Fix) e = refl
 deed_letters woken (tests test.WaitAny) e = cc
-
-pub several_letter : letter_of 0 (intrinsic_of (tests test.WaitAny)) ≡ deeds.letter_of (tests test.WaitAny)
-several_letter = refl

@@ -1,5 +1,5 @@
 -- Rows that are closed, in whatever order.
-use Rattle.std.proofs.Common.{◌≡◌, refl, sym, ap, ◌∙◌, ℕ, zero, suc, ◌+◌, ◌-◌, ◌<◌, ◌≤◌, ◌≢◌, List, [], ◌∷◌, ◌++◌, length, take, drop, Option, Some, None, Bool, true, false, cond, arith}
+use Rattle.std.proofs.Common.{◌≡◌, refl, sym, ap, ◌∙◌, ℕ, zero, suc, ◌+◌, ◌-◌, ◌≤◌, ◌≢◌, List, [], ◌∷◌, ◌++◌, take, drop, Option, Some, None, Bool, true, false, cond, arith}
 use Rattle.std.specs.Prelude.{slice_get}
 use Rattle.std.proofs.Math.Seq.{drop-nil, take-nil}
 use Rattle.b67_word.specs.Word.{Word}
@@ -83,16 +83,6 @@ take_at : {X : Type 0} (xs : List X) (n : ℕ) (x : X) → slice_get xs n ≡ So
 take_at [] n x e = cc
 take_at (y ∷ xs) zero x e = let h : Some y ≡ Some x = e in cc
 take_at (y ∷ xs) (suc n) x e = let k_is : suc n + 1 ≡ suc (n + 1) = omega arith in ap (λ (k : ℕ). take k (y ∷ xs)) k_is ∙ ap (λ zs. y ∷ zs) (take_at xs n x e)
-
-pub has_place : {X : Type 0} (xs : List X) (n : ℕ) (x : X) → slice_get xs n ≡ Some x → n < length xs
-has_place [] n x e = let h : None ≡ Some x = e in absurd cc
-has_place (y ∷ xs) zero x e = omega arith
-has_place (y ∷ xs) (suc n) x e = omega (arith, has_place xs n x e)
-
-pub no_place : {X : Type 0} (xs : List X) (n : ℕ) → slice_get xs n ≡ None → length xs ≤ n
-no_place [] n e = omega arith
-no_place (y ∷ xs) zero e = let h : Some y ≡ None = e in absurd cc
-no_place (y ∷ xs) (suc n) e = omega (arith, no_place xs n e)
 
 -- one word of a mother's row, the last before those that went
 pub next_daughter : (words : List Word) (at before : ℕ) (w : Word) (old new : Rows) (a : ℕ) → slice_get words at ≡ Some w → before ≡ at + 1

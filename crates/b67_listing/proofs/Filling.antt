@@ -5,7 +5,7 @@ use Rattle.std.proofs.lemmas.List.{append-nil, length-drop, drop-drop, map-appen
 use Rattle.b67_ops.specs.declared.TheConstants.{MOST_LEVEL}
 use Rattle.b67_ops.specs.declared.Operator.{Operator}
 use Rattle.b67_ops.specs.Spelling.{OperatorStands}
-use Rattle.b67_ops.proofs.Laws.{Stands-within, Stands-unique}
+use Rattle.b67_ops.proofs.Laws.{Stands_within, Stands_unique}
 use Rattle.b67_segment.specs.declared.code.Mark.{Mark}
 use Rattle.b67_segment.specs.declared.code.Segment.{Segment}
 use Rattle.b67_segment.specs.Syllables.{syllables}
@@ -17,31 +17,31 @@ abbrev mark_of : ListedOperator → Mark
 mark_of p = record { place = p.place; level = p.level }
 
 -- an operator at the level before it has no mark, and another has one
-marks_of-same : (before : ℕ) (first : ListedOperator) (more : List ListedOperator) → eqb first.level before ≡ true → marks_of before (first ∷ more) ≡ marks_of first.level more
-marks_of-same before first more h = cond-true (eqb first.level before) (marks_of first.level more) (mark_of first ∷ marks_of first.level more) h
+marks_of_same : (before : ℕ) (first : ListedOperator) (more : List ListedOperator) → eqb first.level before ≡ true → marks_of before (first ∷ more) ≡ marks_of first.level more
+marks_of_same before first more h = cond-true (eqb first.level before) (marks_of first.level more) (mark_of first ∷ marks_of first.level more) h
 
-marks_of-other : (before : ℕ) (first : ListedOperator) (more : List ListedOperator) → eqb first.level before ≡ false → marks_of before (first ∷ more) ≡ mark_of first ∷ marks_of first.level more
-marks_of-other before first more h = cond-false (eqb first.level before) (marks_of first.level more) (mark_of first ∷ marks_of first.level more) h
+marks_of_other : (before : ℕ) (first : ListedOperator) (more : List ListedOperator) → eqb first.level before ≡ false → marks_of before (first ∷ more) ≡ mark_of first ∷ marks_of first.level more
+marks_of_other before first more h = cond-false (eqb first.level before) (marks_of first.level more) (mark_of first ∷ marks_of first.level more) h
 
 -- the first mark stands at the first operator, or it is the first mark of those after it
-marks-first : (bytes : List ℕ) (at before : ℕ) (first : ListedOperator) (more : List ListedOperator) (mark : Mark) (marks : List Mark) (filled : StandInOrder bytes at (first ∷ more)) →
+marks_first : (bytes : List ℕ) (at before : ℕ) (first : ListedOperator) (more : List ListedOperator) (mark : Mark) (marks : List Mark) (filled : StandInOrder bytes at (first ∷ more)) →
     (marks_of first.level more ≡ mark ∷ marks → filled.3.0 ≤ mark.place) → (b : Bool) → eqb first.level before ≡ b → marks_of before (first ∷ more) ≡ mark ∷ marks → at ≤ mark.place
-marks-first bytes at before first more mark marks filled later true e h =
-    let after = later (sym (marks_of-same before first more e) ∙ h) in
-    let within = Stands-within filled.3.1 in
+marks_first bytes at before first more mark marks filled later true e h =
+    let after = later (sym (marks_of_same before first more e) ∙ h) in
+    let within = Stands_within filled.3.1 in
     omega arith
-marks-first bytes at before first more mark marks filled later false e h =
-    let lists : mark_of first ∷ marks_of first.level more ≡ mark ∷ marks = sym (marks_of-other before first more e) ∙ h in
+marks_first bytes at before first more mark marks filled later false e h =
+    let lists : mark_of first ∷ marks_of first.level more ≡ mark ∷ marks = sym (marks_of_other before first more e) ∙ h in
     let same : mark_of first ≡ mark = cc in
     let place : first.place ≡ mark.place = ap (λ (m : Mark). m.place) same in
     let here = filled.0 in
     omega arith
 
 -- marks stand at the places of operators
-marks-within : (bytes : List ℕ) (at before : ℕ) (operators : List ListedOperator) (mark : Mark) (marks : List Mark) → StandInOrder bytes at operators → marks_of before operators ≡ mark ∷ marks → at ≤ mark.place
-marks-within bytes at before [] mark marks filled h = let e : [] ≡ mark ∷ marks = h in cc
-marks-within bytes at before (first ∷ more) mark marks filled h =
-    marks-first bytes at before first more mark marks filled (marks-within bytes filled.3.0 first.level more mark marks filled.3.2) (eqb first.level before) refl h
+marks_within : (bytes : List ℕ) (at before : ℕ) (operators : List ListedOperator) (mark : Mark) (marks : List Mark) → StandInOrder bytes at operators → marks_of before operators ≡ mark ∷ marks → at ≤ mark.place
+marks_within bytes at before [] mark marks filled h = let e : [] ≡ mark ∷ marks = h in cc
+marks_within bytes at before (first ∷ more) mark marks filled h =
+    marks_first bytes at before first more mark marks filled (marks_within bytes filled.3.0 first.level more mark marks filled.3.2) (eqb first.level before) refl h
 
 -- what passing a place gives: the level of the operator there, and the marks of those after it
 pub record Passed (marks : List Mark) (first : ListedOperator) (more : List ListedOperator) (found : ℕ × ℕ) : Type 0 where
@@ -63,13 +63,13 @@ pass_one mark marks passed at level h = cond-true (eqb mark.place at) (mark.leve
 pass : (bytes : List ℕ) (at passed level : ℕ) (marks : List Mark) (first : ListedOperator) (more : List ListedOperator) (b : Bool) → eqb first.level level ≡ b → StandInOrder bytes at (first ∷ more) →
     drop passed marks ≡ marks_of level (first ∷ more) → passed ≤ length marks → Passed marks first more (passed_mark (drop passed marks) passed at level)
 pass bytes at passed level marks first more true e filled marked within =
-    let list : drop passed marks ≡ marks_of first.level more = marked ∙ marks_of-same level first more e in
-    let inside = Stands-within filled.3.1 in
+    let list : drop passed marks ≡ marks_of first.level more = marked ∙ marks_of_same level first more e in
+    let inside = Stands_within filled.3.1 in
     let none : passed_mark (drop passed marks) passed at level ≡ (level, passed) = pass_none (drop passed marks) passed at level (λ mark rest is.
-    let after = marks-within bytes filled.3.0 first.level more mark rest filled.3.2 (sym list ∙ is) in omega arith) in
+    let after = marks_within bytes filled.3.0 first.level more mark rest filled.3.2 (sym list ∙ is) in omega arith) in
     rw none record { level = sym (eqb-true first.level level e); left = list; within = within }
 pass bytes at passed level marks first more false e filled marked within =
-    let list : drop passed marks ≡ mark_of first ∷ marks_of first.level more = marked ∙ marks_of-other level first more e in
+    let list : drop passed marks ≡ mark_of first ∷ marks_of first.level more = marked ∙ marks_of_other level first more e in
     let one : passed_mark (drop passed marks) passed at level ≡ (first.level, passed + 1) =
     ap (λ ms. passed_mark ms passed at level) list ∙ pass_one (mark_of first) (marks_of first.level more) passed at level filled.0 in
     let rest : drop (passed + 1) marks ≡ marks_of first.level more = sym (drop-drop 1 passed marks) ∙ ap (drop 1) list in
@@ -125,7 +125,7 @@ passes_of segment bytes at passed level before p (first ∷ more) is inside =
       stands = (first.operator, filled.3.0, rw (went.level) (filled.3.1));
       goes_on = λ operator next there.
           let stands : OperatorStands bytes at first.level operator next = rw (went.level) at there in
-          let one = Stands-unique filled.2 filled.3.1 stands in
+          let one = Stands_unique filled.2 filled.3.1 stands in
           let same = same_placed first at found.0 operator filled.0 went.level one.0 in
           record {
             left = more;
@@ -148,7 +148,7 @@ passed_of : (segment : Segment) (bytes : List ℕ) (at passed level : ℕ) (befo
     IsSegment segment before
 passed_of segment bytes at passed level before p [] is outside = rw (append-nil before) at (rw is at p.segment_is)
 passed_of segment bytes at passed level before p (first ∷ more) is outside =
-    let filled = rw is at p.filled in let within = Stands-within filled.3.1 in absurd (omega arith)
+    let filled = rw is at p.filled in let within = Stands_within filled.3.1 in absurd (omega arith)
 
 pub all_passed : (segment : Segment) (bytes : List ℕ) (at passed level : ℕ) (before : List ListedOperator) → Progress segment bytes at passed level before → length bytes ≤ at → IsSegment segment before
 all_passed segment bytes at passed level before p outside = passed_of segment bytes at passed level before p p.left refl outside

@@ -15,10 +15,10 @@ digits_more base (suc count) number digit old middle new some before last all =
     let less : suc count - 1 ≡ count = omega arith in
     all ∙ rw (before, less, last) (append_assoc old (last_digits base count (number / base)) (digit_glyph true (number % base) ∷ []))
 
-enumerate_from-push : {X : Type 0} (n : ℕ) (xs : List X) (x : X) → enumerate_from n (xs ++ x ∷ []) ≡ enumerate_from n xs ++ (n + length xs, x) ∷ []
-enumerate_from-push n [] x = ap (λ k. (k, x) ∷ []) (omega arith)
-enumerate_from-push n (y ∷ ys) x =
-    let rest = enumerate_from-push (n + 1) ys x in
+enumerate_from_push : {X : Type 0} (n : ℕ) (xs : List X) (x : X) → enumerate_from n (xs ++ x ∷ []) ≡ enumerate_from n xs ++ (n + length xs, x) ∷ []
+enumerate_from_push n [] x = ap (λ k. (k, x) ∷ []) (omega arith)
+enumerate_from_push n (y ∷ ys) x =
+    let rest = enumerate_from_push (n + 1) ys x in
     let same : n + 1 + length ys ≡ n + length (y ∷ ys) = omega arith in
     ap (λ es. (n, y) ∷ es) (rest ∙ ap (λ k. enumerate_from (n + 1) ys ++ (k, x) ∷ []) same)
 
@@ -31,6 +31,6 @@ formats_more lines formats i d inside =
     let before = enumerate_from 0 (take i formats) in
     let long : 0 + length (take i formats) ≡ i = omega (arith, length-take-le i formats) in
     let listed : enumerate_from 0 (take (i + 1) formats) ≡ before ++ (i, format) ∷ [] =
-    ap (enumerate_from 0) (take_more formats i d inside) ∙ enumerate_from-push 0 (take i formats) format ∙ ap (λ k. before ++ (k, format) ∷ []) long in
+    ap (enumerate_from 0) (take_more formats i d inside) ∙ enumerate_from_push 0 (take i formats) format ∙ ap (λ k. before ++ (k, format) ∷ []) long in
     append_assoc lines (map format_line before) (format_line (i, format) ∷ [])
     ∙ ap (λ t. lines ++ t) (sym (ap (map format_line) listed ∙ map-append format_line before ((i, format) ∷ [])))

@@ -4,13 +4,13 @@ use Rattle.std.proofs.lemmas.Bool.{ne_eqb}
 use Rattle.std.proofs.lemmas.Bool.Decides.{nat_tests}
 use Rattle.std.specs.Prelude.{Some, None}
 use Rattle.b67_ops.specs.Spelling.{spelling, OperatorStands}
-use Rattle.b67_ops.proofs.Laws.{Stands-appended, Stands-kept, Stands-within}
+use Rattle.b67_ops.proofs.Laws.{Stands_appended, Stands_kept, Stands_within}
 use Rattle.b67_segment.specs.declared.TheConstants.{MOST_SEGMENT_WORDS}
 use Rattle.b67_segment.specs.declared.code.Mark.{Mark}
 use Rattle.b67_segment.specs.declared.code.Segment.{Segment}
 use Rattle.b67_segment.specs.Operators as building
 use Rattle.b67_segment.specs.Syllables.{syllables, Spells}
-use Rattle.b67_segment.proofs.Fetches.{length-syllables}
+use Rattle.b67_segment.proofs.Fetches.{length_syllables}
 use Rattle.b67_listing.specs.Operators.{ListedOperator}
 use Rattle.b67_listing.specs.Listings.{StandInOrder, marks_of, IsSegment, HasOperators}
 
@@ -27,13 +27,13 @@ in_order bytes front (p ∷ ps) fit whole =
     let rest = building.text (at + length sp) ps in
     let joined : bytes ≡ (front ++ sp) ++ rest = whole ∙ sym (append_assoc front sp rest) in
     let place : length (front ++ sp) ≡ at + length sp = length-append front sp in
-    let kept : OperatorStands ((front ++ sp) ++ rest) at p.level p.operator (at + length sp) = Stands-kept rest (Stands-appended front p.level p.operator fit.0.fits) in
+    let kept : OperatorStands ((front ++ sp) ++ rest) at p.level p.operator (at + length sp) = Stands_kept rest (Stands_appended front p.level p.operator fit.0.fits) in
     let stands : OperatorStands bytes at p.level p.operator (at + length sp) = subst (λ xs. OperatorStands xs at p.level p.operator (at + length sp)) (sym joined) kept in
     let later : StandInOrder bytes (length (front ++ sp)) (places (length (front ++ sp)) ps) =
     in_order bytes (front ++ sp) ps fit.1 (joined ∙ ap (λ k. (front ++ sp) ++ building.text k ps) (sym place)) in
     (refl, fit.0.outer, fit.0.known, (at + length sp, stands, subst (λ k. StandInOrder bytes k (places k ps)) place later))
 
-same_test : (m n : ℕ) → nat_eq m n ≡ (n == m)
+pub same_test : (m n : ℕ) → nat_eq m n ≡ (n == m)
 same_test m n = grind (arith, nat_tests)
 
 -- the marks of the operators are those of the listing
@@ -60,7 +60,7 @@ spelled_segment segment [] spells some few = absurd (omega arith)
 spelled_segment segment (p ∷ ps) spells some few =
     let filled = in_order (syllables segment.words) [] (p ∷ ps) spells.fit spells.code in
     let is : IsSegment segment (places 0 (p ∷ ps)) = record {
-      some = omega (arith, length-syllables segment.words, Stands-within filled.3.1);
+      some = omega (arith, length_syllables segment.words, Stands_within filled.3.1);
       few = few;
       words = spells.small;
       filled = filled;

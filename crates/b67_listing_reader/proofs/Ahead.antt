@@ -11,12 +11,12 @@ use Rattle.b67_segment.specs.declared.code.Segment.{Segment}
 use Rattle.b67_segment.specs.declared.code.Format.{Format}
 use Rattle.b67_segment.specs.declared.code.Code.{Code}
 use Rattle.b67_segment.specs.Syllables.{syllables}
-use Rattle.b67_segment.proofs.Fetches.{length-syllables}
+use Rattle.b67_segment.proofs.Fetches.{length_syllables}
 use Rattle.b67_listing.specs.Operators.{ListedOperator, operator_line}
 use Rattle.b67_listing.specs.Formats.{format_line, format_lines}
 use Rattle.b67_listing.specs.Listings.{IsSegment, marks_of, IsListable, SegmentsText, none, more, segment_line, segment_lines, ListingText}
 use Rattle.b67_listing_reader.specs.Reading.{OperatorCanStand, width, AreInOrder, operator_lines, IsFormat}
-use Rattle.b67_listing_reader.proofs.Orders.{code_text, filled, order-grows, width-some}
+use Rattle.b67_listing_reader.proofs.Orders.{code_text, filled, order_grows, width_some}
 use Rattle.b67_listing_reader.proofs.Words.{one_words}
 use Rattle.b67_listing_reader.proofs.Lines.{one_operator}
 use Rattle.b67_listing_reader.proofs.OneFormat.{one_format}
@@ -41,11 +41,11 @@ pub next_operator : (at : ℕ) (ps : List ListedOperator) (mid : ℕ) (qs : List
     operator_lines ps ++ x ≡ operator_lines qs ++ b → GoesOn mid end x
 next_operator at [] mid [] end x b h g less e = absurd (omega arith)
 next_operator at [] mid (q ∷ qs) end x b h g less e =
-    let grows = order-grows (at + width q) qs end g.1 in
+    let grows = order_grows (at + width q) qs end g.1 in
     record { placed = q; more = operator_lines qs ++ b; stands = subst (λ k. OperatorCanStand k q) h g.0; within = omega arith; rest_is = e }
 next_operator at (p ∷ ps) mid [] end x b h g less e =
-    let grows = order-grows (at + width p) ps mid h.1 in
-    let some = width-some p in
+    let grows = order_grows (at + width p) ps mid h.1 in
+    let some = width_some p in
     absurd (omega arith)
 next_operator at (p ∷ ps) mid (q ∷ qs) end x b h g less e =
     let heads : operator_line p ≡ operator_line q = head_of e in
@@ -62,12 +62,12 @@ pub same_operators : (at : ℕ) (ps qs : List ListedOperator) (end : ℕ) (x b :
     operator_lines ps ++ x ≡ operator_lines qs ++ b → Alike ps qs x b
 same_operators at [] [] end x b h g e = record { operators = refl; rests = e }
 same_operators at [] (q ∷ qs) end x b h g e =
-    let grows = order-grows (at + width q) qs end g.1 in
-    let some = width-some q in
+    let grows = order_grows (at + width q) qs end g.1 in
+    let some = width_some q in
     absurd (omega arith)
 same_operators at (p ∷ ps) [] end x b h g e =
-    let grows = order-grows (at + width p) ps end h.1 in
-    let some = width-some p in
+    let grows = order_grows (at + width p) ps end h.1 in
+    let some = width_some p in
     absurd (omega arith)
 same_operators at (p ∷ ps) (q ∷ qs) end x b h g e =
     let heads : operator_line p ≡ operator_line q = head_of e in
@@ -84,7 +84,7 @@ pub record Body (segment : Segment) (operators : List ListedOperator) : Type 0 w
 pub body : (segment : Segment) (operators : List ListedOperator) → IsSegment segment operators → Body segment operators
 body segment operators is =
     let whole = filled (syllables segment.words) 0 operators is.filled in
-    record { order = subst (λ k. AreInOrder 0 operators k) (length-syllables segment.words) whole.order; text = whole.text }
+    record { order = subst (λ k. AreInOrder 0 operators k) (length_syllables segment.words) whole.order; text = whole.text }
 
 one_segment : (segment other : Segment) (ps qs : List ListedOperator) → IsSegment segment ps → IsSegment other qs → ps ≡ qs → segment ≡ other
 one_segment segment other ps qs is also same =

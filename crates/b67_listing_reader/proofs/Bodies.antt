@@ -3,30 +3,17 @@ use Rattle.std.proofs.Common.{◌≡◌, ℕ, zero, suc, ◌+◌, ◌-◌, ◌*�
 use Rattle.std.proofs.lemmas.Bool.{cases_lt}
 use Rattle.std.proofs.lemmas.List.{append-nil, map-append, take-append-drop, drop-drop, drop_at, take_at, take_all, take-append-le, drop-append-le, drop_more, length-map, length-take}
 use Rattle.b67_text.specs.Texts.{PartStands}
-use Rattle.b67_segment.specs.declared.TheConstants.{MOST_SEGMENT_WORDS}
 use Rattle.b67_segment.specs.declared.code.Segment.{Segment}
 use Rattle.b67_segment.specs.Operators as building
 use Rattle.b67_segment.specs.Syllables.{syllables}
-use Rattle.b67_segment.proofs.Fetches.{length-syllables}
+use Rattle.b67_segment.proofs.Fetches.{length_syllables}
 use Rattle.b67_listing.specs.Operators.{ListedOperator, operator_line}
 use Rattle.b67_listing.specs.Listings.{IsSegment}
+use Rattle.b67_list.proofs.Lists.{empty_if_none}
 use Rattle.b67_listing_reader.specs.declared.operators.Told.{Told}
-use Rattle.b67_listing_reader.specs.Reading.{OperatorCanStand, width, AreInOrder, IsWordCount, operator_lines, TellsNone, TellsOne, told_at, LinesTell, TellEach, IsNoOperator, TellSoFar, TellsOperators, AreOperators, IsRelisted, ReadsBody, StopsInBody}
-use Rattle.b67_listing_reader.proofs.Orders.{code_text, order-push, order-grows, length-code, width-some, filled}
+use Rattle.b67_listing_reader.specs.Reading.{OperatorCanStand, width, AreInOrder, IsWordCount, operator_lines, TellsNone, TellsOne, told_at, LinesTell, TellEach, IsNoOperator, TellSoFar, TellsOperators, IsRelisted, ReadsBody, StopsInBody}
+use Rattle.b67_listing_reader.proofs.Orders.{code_text, order_push, order_grows, length_code, width_some, filled}
 use Rattle.b67_listing_reader.proofs.Built.{bare, size_is, front_of}
-
--- no operators yet
-pub tell_none : (lines : List (List ℕ)) (at most : ℕ) (operators : List building.Placed) → at ≤ length lines → operators ≡ [] → TellSoFar lines at most operators at
-tell_none lines at most operators inside none = record {
-  placed = [];
-  operators_are = none;
-  end = 0;
-  order = refl;
-  within = omega arith;
-  told = tt;
-  next_is = omega arith;
-  inside = inside;
-}
 
 tell_push : (lines : List (List ℕ)) (ps : List ListedOperator) (line : List ℕ) (rest : List (List ℕ)) (p : ListedOperator) → TellEach lines ps → drop (length ps) lines ≡ line ∷ rest → TellsOne line p → TellEach lines (ps ++ p ∷ [])
 tell_push [] [] line rest p each here one = let f : [] ≡ line ∷ rest = here in cc
@@ -52,7 +39,7 @@ tell_more lines at most operators more next line place told t inside here place_
       placed = ps ++ p ∷ [];
       operators_are = are ∙ ap (λ us. us ++ bare p ∷ []) t.operators_are ∙ sym (map-append bare ps (p ∷ []));
       end = t.end + width p;
-      order = order-push 0 ps t.end p t.order (subst (λ k. OperatorCanStand k p) (sym end) one.stands);
+      order = order_push 0 ps t.end p t.order (subst (λ k. OperatorCanStand k p) (sym end) one.stands);
       within = omega arith;
       told = tell_push (drop at lines) ps line (drop (next + 1) lines) p t.told mine one;
       next_is = omega (arith, t.next_is, length-append ps (p ∷ []));
@@ -85,23 +72,6 @@ tells_all lines at most operators next place line t place_is here never =
           subst (λ l. IsNoOperator l t.end most) (sym same) (subst (λ k. IsNoOperator line k most) (sym end) never);
     }
 
-pub tells_to_end : (lines : List (List ℕ)) (at most : ℕ) (operators : List building.Placed) (next : ℕ) → TellSoFar lines at most operators next → drop next lines ≡ [] → TellsOperators lines at most operators next
-tells_to_end lines at most operators next t past = record { front = t; stops = λ other rest e. let f : [] ≡ other ∷ rest = sym past ∙ e in cc }
-
--- what is told can be built
-pub are_operators : (lines : List (List ℕ)) (at most next : ℕ) (operators : List building.Placed) → TellsOperators lines at most operators next → (next ≡ at → ⊥) → most ≤ 6 * MOST_SEGMENT_WORDS → AreOperators operators
-are_operators lines at most next operators t other few =
-    let f = t.front in
-    let within = f.within in
-    record {
-      placed = f.placed;
-      operators_are = f.operators_are;
-      end = f.end;
-      order = f.order;
-      some = ⊎_elim (λ (h : 0 < length f.placed). omega arith) (λ (h : length f.placed ≤ 0). absurd (other (omega (arith, f.next_is)))) (cases_lt 0 (length f.placed));
-      few = omega arith;
-    }
-
 -- an operator in the midst of others
 record Mid (ps : List ListedOperator) (count : ℕ) : Type 0 where
   front : List ListedOperator
@@ -124,7 +94,7 @@ record Middle (at : ℕ) (front : List ListedOperator) (one : ListedOperator) (e
   within : mid + width one ≤ end
 
 middle : (at : ℕ) (front : List ListedOperator) (one : ListedOperator) (back : List ListedOperator) (end : ℕ) → AreInOrder at (front ++ one ∷ back) end → Middle at front one end
-middle at [] one back end h = record { mid = at; order = refl; can = h.0; within = order-grows (at + width one) back end h.1 }
+middle at [] one back end h = record { mid = at; order = refl; can = h.0; within = order_grows (at + width one) back end h.1 }
 middle at (p ∷ front) one back end h =
     let rest = middle (at + width p) front one back end h.1 in
     record { mid = rest.mid; order = (h.0, rest.order); can = rest.can; within = rest.within }
@@ -176,9 +146,9 @@ record Begun (operators : List building.Placed) (all ps : List ListedOperator) :
   all_are : all ≡ ps ++ more
   count : length more ≡ building.missing (building.size operators)
 
-length-replicate : {A : Type 0} (count : ℕ) (a : A) → length (replicate count a) ≡ count
-length-replicate zero a = refl
-length-replicate (suc count) a = ap suc (length-replicate count a)
+length_replicate : {A : Type 0} (count : ℕ) (a : A) → length (replicate count a) ≡ count
+length_replicate zero a = refl
+length_replicate (suc count) a = ap suc (length_replicate count a)
 
 begun : (lines part : List (List ℕ)) (at most next : ℕ) (operators : List building.Placed) (segment : Segment) (same : ℕ) (f : TellSoFar lines at most operators next) (r : IsRelisted operators part segment same) →
     Begun operators r.all f.placed
@@ -187,16 +157,12 @@ begun lines part at most next operators segment same f r =
     let us = drop (length operators) (building.filled operators) in
     let parts : building.filled operators ≡ operators ++ us = ap (λ xs. operators ++ xs) (sym (drop_at operators _ (length operators) refl)) in
     let front = front_of 0 r.all f.placed (length (syllables segment.words)) f.end us whole.order f.order (r.all_are ∙ parts ∙ ap (λ os. os ++ us) f.operators_are) in
-    let long : length us ≡ building.missing (building.size operators) = ap length (drop_at operators _ (length operators) refl) ∙ length-replicate (building.missing (building.size operators)) _ in
+    let long : length us ≡ building.missing (building.size operators) = ap length (drop_at operators _ (length operators) refl) ∙ length_replicate (building.missing (building.size operators)) _ in
     record {
       more = front.more;
       all_are = front.all_are;
       count = sym (length-map front.more bare) ∙ ap length front.more_are ∙ long;
     }
-
-no_more : {A : Type 0} (xs : List A) → length xs ≡ 0 → xs ≡ []
-no_more [] none = refl
-no_more (x ∷ xs) none = absurd (omega arith)
 
 -- a segment is read
 pub body_read : (lines part : List (List ℕ)) (at words next : ℕ) (operators : List building.Placed) (segment : Segment) (same : ℕ) → TellsOperators lines at (6 * words) operators next →
@@ -207,11 +173,11 @@ body_read lines part at words next operators segment same t r up is full past =
     let p = part_of part lines at next up f.inside is in
     let b = begun lines part at (6 * words) next operators segment same f r in
     let none : building.missing (6 * words) ≡ 0 = omega arith in
-    let all : r.all ≡ ps = b.all_are ∙ ap (λ m. ps ++ m) (no_more b.more (b.count ∙ ap building.missing full ∙ none)) ∙ append-nil ps in
+    let all : r.all ≡ ps = b.all_are ∙ ap (λ m. ps ++ m) (empty_if_none b.more (b.count ∙ ap building.missing full ∙ none)) ∙ append-nil ps in
     let end : f.end ≡ 6 * words = sym (size_is ps f.end f.order) ∙ ap building.size (sym f.operators_are) ∙ full in
     let whole = filled (syllables segment.words) 0 r.all r.segment_is.filled in
     let size : length (syllables segment.words) ≡ f.end =
-    omega (arith, length-code 0 r.all (length (syllables segment.words)) whole.order, length-code 0 ps f.end f.order, ap (λ qs. length (code_text qs)) all) in
+    omega (arith, length_code 0 r.all (length (syllables segment.words)) whole.order, length_code 0 ps f.end f.order, ap (λ qs. length (code_text qs)) all) in
     let count = next - at in
     let counted : at + count ≡ next = omega arith in
     let many : length (operator_lines ps) ≡ length ps = length-map ps operator_line in
@@ -220,7 +186,7 @@ body_read lines part at words next operators segment same t r up is full past =
     record {
       operators = ps;
       segment_is = subst (λ qs. IsSegment segment qs) all r.segment_is;
-      words_are = omega (arith, size, end, length-syllables segment.words);
+      words_are = omega (arith, size, end, length_syllables segment.words);
       stands = subst (λ k. PartStands (operator_lines ps) lines at k) counted (stand_first (operator_lines ps) lines at count (omega (arith, f.inside)) lines_are);
     }
 
@@ -241,7 +207,7 @@ pub body_none : (lines : List (List ℕ)) (at words next line : ℕ) (operators 
     (1 ≤ line) × StopsInBody words lines at (line - 1)
 body_none lines at words next line operators t count same is =
     let f = t.front in
-    let none : f.placed ≡ [] = no_more f.placed (omega (arith, f.next_is)) in
+    let none : f.placed ≡ [] = empty_if_none f.placed (omega (arith, f.next_is)) in
     let end : 0 ≡ f.end = subst (λ ps. AreInOrder 0 ps f.end) none f.order in
     let some = count.some in
     let back : next ≡ line - 1 = omega arith in
@@ -273,7 +239,7 @@ stops_within lines part at words next operators segment same t r p less =
     let short : same < length part = omega (arith, p.long) in
     let lines_are : take same (drop at lines) ≡ operator_lines m.front =
     ap (take same) (sym p.whole) ∙ take-append-le same part (drop next lines) (omega arith) ∙ r.same_are.alike ∙ ap (take same) all ∙ take_at (operator_lines m.front) after same long in
-    let wide = width-some m.one in
+    let wide = width_some m.one in
     let within = s.within in
     let most = f.within in
     record {

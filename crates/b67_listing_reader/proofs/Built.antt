@@ -12,12 +12,12 @@ use Rattle.b67_segment.specs.declared.code.Segment.{Segment}
 use Rattle.b67_segment.specs.Operators as building
 use Rattle.b67_segment.specs.Building.{Builds}
 use Rattle.b67_segment.specs.Syllables.{syllables, Spells}
-use Rattle.b67_segment.proofs.Fetches.{length-syllables}
-use Rattle.b67_segment.proofs.Parsing.{operators_of-built}
+use Rattle.b67_segment.proofs.Fetches.{length_syllables}
+use Rattle.b67_segment.proofs.Parsing.{operators_of_built}
 use Rattle.b67_listing.specs.Operators.{ListedOperator}
 use Rattle.b67_listing.specs.Listings.{marks_of, IsSegment}
 use Rattle.b67_listing_reader.specs.Reading.{width, AreInOrder, unplaced}
-use Rattle.b67_listing_reader.proofs.Orders.{spelled, code_text, mark_of, width-some, order-grows, order-append, length-code, fills, filled, noops, noops-order}
+use Rattle.b67_listing_reader.proofs.Orders.{spelled, code_text, mark_of, width_some, order_grows, order_append, length_code, fills, filled, noops, noops_order}
 
 -- one without its place
 abbrev pub bare : ListedOperator → building.Placed
@@ -32,7 +32,7 @@ text_is at (p ∷ ps) end h =
     ∙ ap (λ t. spelled p ++ t) (text_is (at + width p) ps end h.1)
 
 pub size_is : (ps : List ListedOperator) (end : ℕ) → AreInOrder 0 ps end → building.size (unplaced ps) ≡ end
-size_is ps end h = omega (arith, ap length (text_is 0 ps end h), length-code 0 ps end h)
+size_is ps end h = omega (arith, ap length (text_is 0 ps end h), length_code 0 ps end h)
 
 are_fit : (at : ℕ) (ps : List ListedOperator) (end : ℕ) → AreInOrder at ps end → building.AreFit (unplaced ps)
 are_fit at [] end h = tt
@@ -77,7 +77,7 @@ builds segment ps is =
       code = whole.text ∙ sym (text_is 0 ps (length bytes) whole.order);
       marks = is.marked ∙ sym (marked ps (length bytes) whole.order);
       fit = are_fit 0 ps (length bytes) whole.order;
-      room = omega (arith, length-syllables segment.words);
+      room = omega (arith, length_syllables segment.words);
     }
 
 -- and what is built of operators is a segment of them
@@ -86,7 +86,7 @@ pub built_segment : (segment : Segment) (ps : List ListedOperator) (end : ℕ) �
 built_segment segment ps end h spells some few =
     let bytes = syllables segment.words in
     let text : bytes ≡ code_text ps = spells.code ∙ text_is 0 ps end h in
-    let size : end ≡ length bytes = omega (arith, ap length text, length-code 0 ps end h) in
+    let size : end ≡ length bytes = omega (arith, ap length text, length_code 0 ps end h) in
     record {
       some = some;
       few = few;
@@ -100,8 +100,8 @@ pub spelled_ones : (segment : Segment) (us : List building.Placed) (ps : List Li
 spelled_ones segment us ps spells is =
     let few = is.few in
     let one : Builds us (syllables segment.words) segment.marks =
-    record { code = spells.code; marks = spells.marks; fit = spells.fit; room = omega (arith, length-syllables segment.words) } in
-    sym (operators_of-built (builds segment ps is)) ∙ operators_of-built one
+    record { code = spells.code; marks = spells.marks; fit = spells.fit; room = omega (arith, length_syllables segment.words) } in
+    sym (operators_of_built (builds segment ps is)) ∙ operators_of_built one
 
 -- operators in order that begin with others, but for their places, begin with these
 pub record Front (all ps : List ListedOperator) (us : List building.Placed) : Type 0 where
@@ -122,9 +122,9 @@ front_of at (a ∷ all) (p ∷ ps) end stop us h g e =
     let rest = front_of (at + width a) all ps end stop us h.1 (subst (λ (r : ListedOperator). AreInOrder (at + width r) ps stop) (sym same) g.1) tails in
     record { more = rest.more; all_are = ap (λ r. r ∷ all) same ∙ ap (λ rs. p ∷ rs) rest.all_are; more_are = rest.more_are }
 
-noops-bare : (level count at : ℕ) → unplaced (noops level count at) ≡ replicate count (record { level = level; operator = Plain Noop })
-noops-bare level zero at = refl
-noops-bare level (suc count) at = ap (λ us. record { level = level; operator = Plain Noop } ∷ us) (noops-bare level count (at + 1))
+noops_bare : (level count at : ℕ) → unplaced (noops level count at) ≡ replicate count (record { level = level; operator = Plain Noop })
+noops_bare level zero at = refl
+noops_bare level (suc count) at = ap (λ us. record { level = level; operator = Plain Noop } ∷ us) (noops_bare level count (at + 1))
 
 -- the level of the last operator
 record HasLevel (found : Option ℕ) : Type 0 where
@@ -154,15 +154,15 @@ with_noops ps end h some =
     let more = noops last.level count end in
     record {
       all = ps ++ more;
-      order = order-append 0 ps end more (end + count) h (noops-order last.level count end last.least last.most);
-      all_are = map-append bare ps more ∙ ap (λ us. unplaced ps ++ us) (noops-bare last.level count end
+      order = order_append 0 ps end more (end + count) h (noops_order last.level count end last.least last.most);
+      all_are = map-append bare ps more ∙ ap (λ us. unplaced ps ++ us) (noops_bare last.level count end
           ∙ ap (λ o. replicate count (record { level = unwrap_or o 0; operator = Plain Noop })) (sym last.is)
           ∙ ap (λ n. replicate (building.missing n) (record { level = unwrap_or (building.last_level None (unplaced ps)) 0; operator = Plain Noop })) (sym (size_is ps end h)));
     }
 
-pub order-some : (ps : List ListedOperator) (end : ℕ) → AreInOrder 0 ps end → 1 ≤ length ps → 1 ≤ end
-order-some [] end h some = absurd (omega arith)
-order-some (p ∷ ps) end h some =
-    let grows = order-grows (0 + width p) ps end h.1 in
-    let one = width-some p in
+pub order_some : (ps : List ListedOperator) (end : ℕ) → AreInOrder 0 ps end → 1 ≤ length ps → 1 ≤ end
+order_some [] end h some = absurd (omega arith)
+order_some (p ∷ ps) end h some =
+    let grows = order_grows (0 + width p) ps end h.1 in
+    let one = width_some p in
     omega arith

@@ -1,8 +1,8 @@
 -- The first lines of two lists, as far as they are the same.
-use Rattle.std.proofs.Common.{◌≡◌, ℕ, ◌+◌, ◌<◌, ◌≤◌, Bool, true, false, not, refl, List, [], ◌∷◌, ◌++◌, length, get_or, take, drop, sym, ap, arith, ◌∙◌}
+use Rattle.std.proofs.Common.{◌≡◌, ℕ, ◌+◌, ◌<◌, Bool, true, false, not, refl, List, [], ◌∷◌, ◌++◌, length, get_or, take, drop, sym, ap, arith, ◌∙◌}
 use Rattle.std.specs.Str.{bytes_eq}
 use Rattle.std.proofs.lemmas.Slice.Eq.{bytes_eq-Decides}
-use Rattle.std.proofs.lemmas.List.{take_more, drop_more, length-drop}
+use Rattle.std.proofs.lemmas.List.{take_more, drop_more}
 use Rattle.b67_listing_reader.specs.Reading.{IsFirstOther}
 
 -- what a test tells that two lines differ
@@ -38,17 +38,4 @@ lines_differ lines others same line other alike inside within a b apart = record
       let one : l ≡ get_or lines same line = cc in
       let two : o ≡ get_or others same other = cc in
       apart (a ∙ sym one ∙ is ∙ two ∙ sym b);
-}
-
-longer : (lines : List (List ℕ)) (same : ℕ) (line : List ℕ) (rest : List (List ℕ)) → drop same lines ≡ line ∷ rest → same < length lines
-longer lines same line rest e = omega (arith, ap length e, length-drop same lines)
-
--- or one of the lists has no more
-pub lines_end : (lines others : List (List ℕ)) (same : ℕ) → take same lines ≡ take same others → same ≤ length lines → same ≤ length others → (same < length lines → same < length others → ⊥) →
-    IsFirstOther lines others same
-lines_end lines others same alike within inside past = record {
-  alike = alike;
-  within = within;
-  inside = inside;
-  differ = λ line other rest more e f is. past (longer lines same line rest e) (longer others same other more f);
 }

@@ -9,14 +9,14 @@ use Rattle.b67_listing.specs.Formats.{format_line, format_lines}
 use Rattle.b67_listing_reader.specs.Reading.{IsFormat, IsNoFormat, ReadsFormats, StopsInFormats}
 
 -- formats and one more after them
-lines-push : (number : ℕ) (formats : List Format) (last : Format) →
+lines_push : (number : ℕ) (formats : List Format) (last : Format) →
     map format_line (enumerate_from number (formats ++ last ∷ [])) ≡ map format_line (enumerate_from number formats) ++ format_line (number + length formats, last) ∷ []
-lines-push number [] last =
+lines_push number [] last =
     let same : number ≡ number + 0 = omega arith in
     ap (λ k. format_line (k, last) ∷ []) same
-lines-push number (f ∷ fs) last =
+lines_push number (f ∷ fs) last =
     let same : number + 1 + length fs ≡ number + length (f ∷ fs) = omega arith in
-    ap (λ ls. format_line (number, f) ∷ ls) (lines-push (number + 1) fs last ∙ ap (λ k. map format_line (enumerate_from (number + 1) fs) ++ format_line (k, last) ∷ []) same)
+    ap (λ ls. format_line (number, f) ∷ ls) (lines_push (number + 1) fs last ∙ ap (λ k. map format_line (enumerate_from (number + 1) fs) ++ format_line (k, last) ∷ []) same)
 
 -- one more line of what stands there
 one_more : (part lines : List (List ℕ)) (at next : ℕ) (line : List ℕ) → PartStands part lines at next → next < length lines → drop next lines ≡ line ∷ drop (next + 1) lines →
@@ -53,7 +53,7 @@ formats_more lines at next number formats line format s same inside here is =
     let line_is : line ≡ format_line (0 + length formats, format) = is.1 ∙ ap (λ k. format_line (k, format)) place in
     record {
       each = All-push IsFormat formats format s.each is.0;
-      stands = subst (λ ls. PartStands ls lines at (next + 1)) (ap (λ l. format_lines formats ++ l ∷ []) line_is ∙ sym (lines-push 0 formats format))
+      stands = subst (λ ls. PartStands ls lines at (next + 1)) (ap (λ l. format_lines formats ++ l ∷ []) line_is ∙ sym (lines_push 0 formats format))
           (one_more (format_lines formats) lines at next line s.stands inside here);
     }
 

@@ -1,16 +1,13 @@
 -- Head lines of segments and of formats.
 use Rattle.std.proofs.Common.{◌≡◌, ℕ, None, List, [], ◌∷◌, ◌++◌, length, drop, codes, refl, sym, ap, arith, ◌∙◌, append_assoc, length-drop}
 use Rattle.std.specs.Fmt.{decimal}
-use Rattle.std.specs.List.{All}
-use Rattle.std.proofs.lemmas.List.{append-nil, append_cancel_left, append_cancel_right, drop_all}
+use Rattle.std.proofs.lemmas.List.{append-nil}
 use Rattle.b67_text.specs.declared.number.Numbers.{Numbers}
 use Rattle.b67_text.specs.Texts.{StopsAt, PartStands}
 use Rattle.b67_text.specs.Numerals.{IsDigit, NumberIsIn, IsField}
 use Rattle.b67_text.proofs.Fronts.{fields_alike}
-use Rattle.b67_segment.specs.declared.code.Phrase.{Phrase}
-use Rattle.b67_segment.specs.declared.code.Format.{Format}
-use Rattle.b67_listing.specs.Formats.{phrases_text, format_line}
-use Rattle.b67_listing.specs.Listings.{IsPhrase, segment_line}
+use Rattle.b67_listing.specs.Formats.{phrases_text}
+use Rattle.b67_listing.specs.Listings.{segment_line}
 use Rattle.b67_listing_reader.specs.Reading.{IsWordCount, IsNoHead, IsNoFormat}
 use Rattle.b67_listing_reader.proofs.OneFormat.{format_head, headed}
 
@@ -25,9 +22,6 @@ is_count : (words : ℕ) → IsWordCount words → NumberIsIn counts words
 is_count words w =
     let few = w.few in
     record { fits = omega arith; least = w.some; most = few; other = λ e. cc }
-
-pub count_is : (words : ℕ) → NumberIsIn counts words → IsWordCount words
-count_is words i = record { some = i.least; few = i.most }
 
 no_digit_end : IsDigit 10 → ⊥
 no_digit_end d = omega (arith, d.0)
@@ -50,11 +44,6 @@ count_ends digits ended count next is i s other words w e =
     let within = s.within in
     other (omega (arith, length-drop next ended))
 
-pub count_read : (digits ended : List ℕ) (count next : ℕ) → ended ≡ digits ++ 10 ∷ [] → next ≡ length ended → PartStands (decimal count ++ 10 ∷ []) ended 0 next → digits ≡ decimal count
-count_read digits ended count next is whole s =
-    let past : drop next ended ≡ [] = drop_all next ended (omega arith) in
-    append_cancel_right digits (decimal count) (10 ∷ []) (sym is ∙ s.part_is ∙ ap (λ t. (decimal count ++ 10 ∷ []) ++ t) past ∙ append-nil (decimal count ++ 10 ∷ []))
-
 -- the head of a segment's line
 abbrev pub segment_head : ℕ → List ℕ
 segment_head n = codes "SEGMENT " ++ decimal n ++ codes " "
@@ -67,21 +56,6 @@ pub no_head : (n : ℕ) (line : List ℕ) (end : ℕ) → StopsAt (λ text. text
 no_head n line end s words w e =
     not_stopped (λ text. text ≡ segment_head n) line (segment_head n) (decimal words) end s refl (sym (e ∙ segment_headed n words))
 
-pub head_read : (n : ℕ) (line : List ℕ) (at words : ℕ) → PartStands (segment_head n) line 0 at → drop at line ≡ decimal words → line ≡ segment_line n words
-head_read n line at words s e = s.part_is ∙ ap (λ t. segment_head n ++ t) e ∙ sym (segment_headed n words)
-
-pub head_ends : (n : ℕ) (line : List ℕ) (at : ℕ) → PartStands (segment_head n) line 0 at → ((words : ℕ) → IsWordCount words → drop at line ≡ decimal words → ⊥) → IsNoHead line n
-head_ends n line at s none_is words w e =
-    none_is words w (append_cancel_left (segment_head n) (drop at line) (decimal words) (sym s.part_is ∙ e ∙ segment_headed n words))
-
 pub no_format_head : (n : ℕ) (line : List ℕ) (end : ℕ) → StopsAt (λ text. text ≡ format_head n) line 0 end → IsNoFormat line n
 no_format_head n line end s format is e =
     not_stopped (λ text. text ≡ format_head n) line (format_head n) (phrases_text format.phrases ++ codes ">") end s refl (sym (e ∙ headed n format))
-
-pub format_read : (n : ℕ) (line : List ℕ) (at : ℕ) (format : Format) → PartStands (format_head n) line 0 at → drop at line ≡ phrases_text format.phrases ++ codes ">" → line ≡ format_line (n, format)
-format_read n line at format s e = s.part_is ∙ ap (λ t. format_head n ++ t) e ∙ sym (headed n format)
-
-pub format_ends : (n : ℕ) (line : List ℕ) (at : ℕ) → PartStands (format_head n) line 0 at →
-    ((phrases : List Phrase) → All IsPhrase phrases → drop at line ≡ phrases_text phrases ++ codes ">" → ⊥) → IsNoFormat line n
-format_ends n line at s never format is e =
-    never format.phrases is (append_cancel_left (format_head n) (drop at line) (phrases_text format.phrases ++ codes ">") (sym s.part_is ∙ e ∙ headed n format))

@@ -12,7 +12,7 @@ use Rattle.b67_ops.specs.declared.table.OperatorKind.{OperatorKind}
 use Rattle.b67_ops.specs.declared.table.OperatorKind.TheVariants as kinds
 use Rattle.b67_ops.specs.Codes.{code_of}
 use Rattle.b67_ops.specs.Spelling.{spelling, Fits, filling}
-use Rattle.b67_ops.proofs.Laws.{length-spelling, spelling-prefix, HasSpelling-from_fits}
+use Rattle.b67_ops.proofs.Laws.{length_spelling, spelling_prefix, HasSpelling_from_fits}
 use Rattle.b67_ops.proofs.Reading.{IsBytes}
 use Rattle.b67_listing.specs.Digits.{hexadecimal}
 use Rattle.b67_listing.specs.Operators.{ListedOperator, operator_line, operator_text}
@@ -24,13 +24,13 @@ pub data AreBytes : List ℕ → Type 0 where
   no_bytes : AreBytes []
   more_bytes : (b : ℕ) (bs : List ℕ) → b < 256 → AreBytes bs → AreBytes (b ∷ bs)
 
-AreBytes-append : (xs ys : List ℕ) → AreBytes xs → AreBytes ys → AreBytes (xs ++ ys)
-AreBytes-append _ ys no_bytes q = q
-AreBytes-append _ ys (more_bytes b bs h p) q = more_bytes b (bs ++ ys) h (AreBytes-append bs ys p q)
+AreBytes_append : (xs ys : List ℕ) → AreBytes xs → AreBytes ys → AreBytes (xs ++ ys)
+AreBytes_append _ ys no_bytes q = q
+AreBytes_append _ ys (more_bytes b bs h p) q = more_bytes b (bs ++ ys) h (AreBytes_append bs ys p q)
 
-zeros-bytes : (count : ℕ) → AreBytes (replicate count 0)
-zeros-bytes zero = no_bytes
-zeros-bytes (suc count) = more_bytes 0 (replicate count 0) (omega arith) (zeros-bytes count)
+zeros_bytes : (count : ℕ) → AreBytes (replicate count 0)
+zeros_bytes zero = no_bytes
+zeros_bytes (suc count) = more_bytes 0 (replicate count 0) (omega arith) (zeros_bytes count)
 
 one : (a : ℕ) → a < 256 → AreBytes (a ∷ [])
 one a p = more_bytes a [] p no_bytes
@@ -38,77 +38,77 @@ one a p = more_bytes a [] p no_bytes
 two : (a b : ℕ) → a < 256 → b < 256 → AreBytes (a ∷ b ∷ [])
 two a b p q = more_bytes a (b ∷ []) p (one b q)
 
-code-byte : (kind : OperatorKind) → code_of kind < 256
+code_byte : (kind : OperatorKind) → code_of kind < 256
 unfolding code_of
-code-byte kinds.Valc = omega arith
-code-byte kinds.Namc = omega arith
-code-byte kinds.Lt8 = omega arith
-code-byte kinds.Lt16 = omega arith
-code-byte kinds.Lt48 = omega arith
-code-byte kinds.Mpcw = omega arith
-code-byte (kinds.Branch branches.Brfl) = omega arith
-code-byte (kinds.Branch kind) = omega arith
-code-byte (kinds.Plain plains.Add) = omega arith
-code-byte (kinds.Plain kind) = omega arith
+code_byte kinds.Valc = omega arith
+code_byte kinds.Namc = omega arith
+code_byte kinds.Lt8 = omega arith
+code_byte kinds.Lt16 = omega arith
+code_byte kinds.Lt48 = omega arith
+code_byte kinds.Mpcw = omega arith
+code_byte (kinds.Branch branches.Brfl) = omega arith
+code_byte (kinds.Branch kind) = omega arith
+code_byte (kinds.Plain plains.Add) = omega arith
+code_byte (kinds.Plain kind) = omega arith
 
-two-bytes : (n : ℕ) → AreBytes (to_be_bytes w16 n)
-two-bytes n = more_bytes _ _ (omega arith) (more_bytes _ _ (omega arith) no_bytes)
+two_bytes : (n : ℕ) → AreBytes (to_be_bytes w16 n)
+two_bytes n = more_bytes _ _ (omega arith) (more_bytes _ _ (omega arith) no_bytes)
 
-six-bytes : (n : ℕ) → AreBytes (bytes_high_first 6 n)
-six-bytes n =
+six_bytes : (n : ℕ) → AreBytes (bytes_high_first 6 n)
+six_bytes n =
     more_bytes _ _ (omega arith) (more_bytes _ _ (omega arith) (more_bytes _ _ (omega arith) (more_bytes _ _ (omega arith) (more_bytes _ _ (omega arith) (more_bytes _ _ (omega arith) no_bytes)))))
 
-word-spelled : (at code n : ℕ) → code < 256 → AreBytes (code ∷ (replicate (filling at) 0 ++ bytes_high_first 6 n))
-word-spelled at code n p = more_bytes code _ p (AreBytes-append (replicate (filling at) 0) (bytes_high_first 6 n) (zeros-bytes (filling at)) (six-bytes n))
+word_spelled : (at code n : ℕ) → code < 256 → AreBytes (code ∷ (replicate (filling at) 0 ++ bytes_high_first 6 n))
+word_spelled at code n p = more_bytes code _ p (AreBytes_append (replicate (filling at) 0) (bytes_high_first 6 n) (zeros_bytes (filling at)) (six_bytes n))
 
 -- the syllables of an operator that fits are bytes
-pub spelling-bytes : (at level : ℕ) (op : Operator) → Fits level op → AreBytes (spelling at level op)
-spelling-bytes at level (Valc couple) fits = two-bytes _
-spelling-bytes at level (Namc couple) fits = two-bytes _
-spelling-bytes at level (Lt8 n) fits = two (code_of kinds.Lt8) n (code-byte kinds.Lt8) fits
-spelling-bytes at level (Lt16 n) fits = more_bytes (code_of kinds.Lt16) _ (code-byte kinds.Lt16) (two-bytes n)
-spelling-bytes at level (Lt48 n) fits = word-spelled at (code_of kinds.Lt48) n (code-byte kinds.Lt48)
-spelling-bytes at level (Mpcw n) fits = word-spelled at (code_of kinds.Mpcw) n (code-byte kinds.Mpcw)
-spelling-bytes at level (Branch kind place) fits = more_bytes (code_of (kinds.Branch kind)) _ (code-byte (kinds.Branch kind)) (two-bytes place)
-spelling-bytes at level (Plain kind) fits = one (code_of (kinds.Plain kind)) (code-byte (kinds.Plain kind))
+pub spelling_bytes : (at level : ℕ) (op : Operator) → Fits level op → AreBytes (spelling at level op)
+spelling_bytes at level (Valc couple) fits = two_bytes _
+spelling_bytes at level (Namc couple) fits = two_bytes _
+spelling_bytes at level (Lt8 n) fits = two (code_of kinds.Lt8) n (code_byte kinds.Lt8) fits
+spelling_bytes at level (Lt16 n) fits = more_bytes (code_of kinds.Lt16) _ (code_byte kinds.Lt16) (two_bytes n)
+spelling_bytes at level (Lt48 n) fits = word_spelled at (code_of kinds.Lt48) n (code_byte kinds.Lt48)
+spelling_bytes at level (Mpcw n) fits = word_spelled at (code_of kinds.Mpcw) n (code_byte kinds.Mpcw)
+spelling_bytes at level (Branch kind place) fits = more_bytes (code_of (kinds.Branch kind)) _ (code_byte (kinds.Branch kind)) (two_bytes place)
+spelling_bytes at level (Plain kind) fits = one (code_of (kinds.Plain kind)) (code_byte (kinds.Plain kind))
 
 -- and so are those of operators in order
-pub code-bytes : (at : ℕ) (ps : List ListedOperator) (end : ℕ) → AreInOrder at ps end → AreBytes (code_text ps)
-code-bytes at [] end h = no_bytes
-code-bytes at (p ∷ ps) end h = AreBytes-append (spelled p) (code_text ps) (spelling-bytes p.place p.level p.operator h.0.fits) (code-bytes (at + width p) ps end h.1)
+pub code_bytes : (at : ℕ) (ps : List ListedOperator) (end : ℕ) → AreInOrder at ps end → AreBytes (code_text ps)
+code_bytes at [] end h = no_bytes
+code_bytes at (p ∷ ps) end h = AreBytes_append (spelled p) (code_text ps) (spelling_bytes p.place p.level p.operator h.0.fits) (code_bytes (at + width p) ps end h.1)
 
-pub IsBytes-from : (bytes : List ℕ) → AreBytes bytes → IsBytes bytes
-IsBytes-from _ no_bytes i = omega arith
-IsBytes-from _ (more_bytes b bs h are) zero = h
-IsBytes-from _ (more_bytes b bs h are) (suc i) = IsBytes-from bs are i
+pub IsBytes_from : (bytes : List ℕ) → AreBytes bytes → IsBytes bytes
+IsBytes_from _ no_bytes i = omega arith
+IsBytes_from _ (more_bytes b bs h are) zero = h
+IsBytes_from _ (more_bytes b bs h are) (suc i) = IsBytes_from bs are i
 
 -- digits
-glyph-decimal : (d : ℕ) → d < 10 → digit_glyph true d ≡ 48 + d
-glyph-decimal d h = cond-true (ltb d 10) (48 + d) (55 + d) (lt-ltb d 10 h)
+glyph_decimal : (d : ℕ) → d < 10 → digit_glyph true d ≡ 48 + d
+glyph_decimal d h = cond-true (ltb d 10) (48 + d) (55 + d) (lt-ltb d 10 h)
 
-glyph-letter : (d : ℕ) → 10 ≤ d → digit_glyph true d ≡ 55 + d
-glyph-letter d h = cond-false (ltb d 10) (48 + d) (55 + d) (le-ltb d 10 h)
+glyph_letter : (d : ℕ) → 10 ≤ d → digit_glyph true d ≡ 55 + d
+glyph_letter d h = cond-false (ltb d 10) (48 + d) (55 + d) (le-ltb d 10 h)
 
-hex-low : (b : ℕ) → 48 ≤ b → b < 58 → hex_value b ≡ Some (b - 48)
-hex-low b p q = cond-false (ltb b 48) None _ (le-ltb b 48 p) ∙ cond-true (ltb b 58) (Some (b - 48)) _ (lt-ltb b 58 q)
+hex_low : (b : ℕ) → 48 ≤ b → b < 58 → hex_value b ≡ Some (b - 48)
+hex_low b p q = cond-false (ltb b 48) None _ (le-ltb b 48 p) ∙ cond-true (ltb b 58) (Some (b - 48)) _ (lt-ltb b 58 q)
 
-hex-high : (b : ℕ) → 65 ≤ b → b < 71 → hex_value b ≡ Some (b - 55)
-hex-high b p q =
+hex_high : (b : ℕ) → 65 ≤ b → b < 71 → hex_value b ≡ Some (b - 55)
+hex_high b p q =
     cond-false (ltb b 48) None _ (le-ltb b 48 (omega arith)) ∙ cond-false (ltb b 58) (Some (b - 48)) _ (le-ltb b 58 (omega arith))
     ∙ cond-false (ltb b 65) None _ (le-ltb b 65 p) ∙ cond-true (ltb b 71) (Some (b - 55)) None (lt-ltb b 71 q)
 
-hex-by : (d : ℕ) (b : Bool) → ltb d 10 ≡ b → d < 16 → hex_value (digit_glyph true d) ≡ Some d
-hex-by d true e h =
+hex_by : (d : ℕ) (b : Bool) → ltb d 10 ≡ b → d < 16 → hex_value (digit_glyph true d) ≡ Some d
+hex_by d true e h =
     let small = ltb-true d 10 e in
     let same : 48 + d - 48 ≡ d = omega arith in
-    ap hex_value (glyph-decimal d small) ∙ hex-low (48 + d) (omega arith) (omega arith) ∙ ap Some same
-hex-by d false e h =
+    ap hex_value (glyph_decimal d small) ∙ hex_low (48 + d) (omega arith) (omega arith) ∙ ap Some same
+hex_by d false e h =
     let large = ltb-false d 10 e in
     let same : 55 + d - 55 ≡ d = omega arith in
-    ap hex_value (glyph-letter d large) ∙ hex-high (55 + d) (omega arith) (omega arith) ∙ ap Some same
+    ap hex_value (glyph_letter d large) ∙ hex_high (55 + d) (omega arith) (omega arith) ∙ ap Some same
 
-hex-glyph : (d : ℕ) → d < 16 → hex_value (digit_glyph true d) ≡ Some d
-hex-glyph d h = hex-by d (ltb d 10) refl h
+hex_glyph : (d : ℕ) → d < 16 → hex_value (digit_glyph true d) ≡ Some d
+hex_glyph d h = hex_by d (ltb d 10) refl h
 
 -- the syllables before a blank
 blank_first : (most : ℕ) (rest : List ℕ) → syllables_in most (32 ∷ rest) ≡ []
@@ -123,8 +123,8 @@ syllables_back (suc most) _ rest (more_bytes b bs small are) long =
     let high = digit_glyph true (b / 16 % 16) in
     let low = digit_glyph true (b % 16) in
     let value : 16 * (b / 16 % 16) + b % 16 ≡ b = omega arith in
-    ap (λ h. with_syllable h (hex_value low) (syllables_in most (hexadecimal bs ++ 32 ∷ rest))) (hex-glyph (b / 16 % 16) (omega arith))
-    ∙ ap (λ l. with_syllable (Some (b / 16 % 16)) l (syllables_in most (hexadecimal bs ++ 32 ∷ rest))) (hex-glyph (b % 16) (omega arith))
+    ap (λ h. with_syllable h (hex_value low) (syllables_in most (hexadecimal bs ++ 32 ∷ rest))) (hex_glyph (b / 16 % 16) (omega arith))
+    ∙ ap (λ l. with_syllable (Some (b / 16 % 16)) l (syllables_in most (hexadecimal bs ++ 32 ∷ rest))) (hex_glyph (b % 16) (omega arith))
     ∙ ap (λ v. v ∷ syllables_in most (hexadecimal bs ++ 32 ∷ rest)) value
     ∙ ap (λ xs. b ∷ xs) (syllables_back most bs rest are (omega arith))
 
@@ -141,8 +141,8 @@ in_range n rest p q =
 
 digits_level : (level : ℕ) → level ≤ MOST_LEVEL → two_digits (digit_glyph true (level / 10 % 10)) (digit_glyph true (level % 10)) ≡ level
 digits_level level q =
-    let tens : digit_glyph true (level / 10 % 10) ≡ 48 + level / 10 % 10 = glyph-decimal (level / 10 % 10) (omega arith) in
-    let units : digit_glyph true (level % 10) ≡ 48 + level % 10 = glyph-decimal (level % 10) (omega arith) in
+    let tens : digit_glyph true (level / 10 % 10) ≡ 48 + level / 10 % 10 = glyph_decimal (level / 10 % 10) (omega arith) in
+    let units : digit_glyph true (level % 10) ≡ 48 + level % 10 = glyph_decimal (level % 10) (omega arith) in
     omega arith
 
 -- the level is read from the line of an operator
@@ -155,7 +155,7 @@ level_back p least most =
     ∙ ap (λ n. cond (leb OUTER_LEVEL n && leb n MOST_LEVEL) (Some (n, line_tail p)) None) (digits_level p.level most) ∙ in_range p.level (line_tail p) least most
 
 pub text_back : (p : ListedOperator) → Fits p.level p.operator → syllables_in 12 (line_tail p) ≡ spelled p
-text_back p fits = syllables_back 12 (spelled p) (operator_text p.operator) (spelling-bytes p.place p.level p.operator fits) (length-spelling p.place p.level p.operator).1
+text_back p fits = syllables_back 12 (spelled p) (operator_text p.operator) (spelling_bytes p.place p.level p.operator fits) (length_spelling p.place p.level p.operator).1
 
 -- two operators at a place have different lines
 pub one_operator : (at : ℕ) (p q : ListedOperator) → OperatorCanStand at p → OperatorCanStand at q → operator_line p ≡ operator_line q → p ≡ q
@@ -170,7 +170,7 @@ one_operator at p q a b e =
     texts ∙ ap (λ k. spelling k q.level q.operator) (sym places) ∙ ap (λ l. spelling p.place l q.operator) (sym levels) in
     let fits : Fits p.level q.operator = subst (λ l. Fits l q.operator) (sym levels) b.fits in
     let ops : p.operator ≡ q.operator =
-    spelling-prefix p.place p.level p.operator q.operator [] [] (HasSpelling-from_fits p.level p.operator a.most a.fits) (HasSpelling-from_fits p.level q.operator a.most fits)
+    spelling_prefix p.place p.level p.operator q.operator [] [] (HasSpelling_from_fits p.level p.operator a.most a.fits) (HasSpelling_from_fits p.level q.operator a.most fits)
     (ap (λ xs. xs ++ []) here) in
     ap (λ k. let r : ListedOperator = record { place = k; level = p.level; operator = p.operator } in r) places
     ∙ ap (λ l. let r : ListedOperator = record { place = q.place; level = l; operator = p.operator } in r) levels

@@ -12,11 +12,9 @@ use Rattle.b67_segment.specs.declared.code.Phrase.TheVariants.{Text, Number, Bla
 use Rattle.b67_segment.specs.declared.code.Format.{Format}
 use Rattle.b67_listing.specs.Formats.{phrase_text, phrases_text, format_line}
 use Rattle.b67_listing.specs.Listings.{IsPhrase}
+use Rattle.b67_list.proofs.Lists.{same_head}
 use Rattle.b67_listing_reader.specs.Reading.{IsFormat, IsTextByte, EndsPhrase, IsEnded}
-
--- what ends a phrase is no digit
-no_digit : (byte : ℕ) → EndsPhrase byte → IsDigit byte → ⊥
-no_digit byte ends is = ⊎_elim (λ (e : byte ≡ 44). omega (arith, is.0)) (λ (e : byte ≡ 62). omega (arith, is.1)) ends
+use Rattle.b67_listing_reader.proofs.Widths.{ends_no_digit}
 
 -- of two numbers that are ended alike, both are the same, and so is what ends them
 pub record WidthsAlike (n m : ℕ) (a b : List ℕ) : Type 0 where
@@ -35,8 +33,8 @@ widths_alike n m a b p q x y e =
     (λ (h : GoesOn n (Some m) (y.byte ∷ y.more)).
     let next = h.next in
     let first : y.byte ≡ h.digit = cc in
-    absurd (no_digit y.byte y.ends (subst IsDigit (sym first) (digits n (decimal m) h.more h.digit wn h.spelled_is))))
-    (ahead n (Some m) x.byte x.more (y.byte ∷ y.more) wn (λ v is. let same : m ≡ v = cc in subst (λ k. k < 10 ^ 64) same wm) (no_digit x.byte x.ends) joined)
+    absurd (ends_no_digit y.byte y.ends (subst IsDigit (sym first) (digits n (decimal m) h.more h.digit wn h.spelled_is))))
+    (ahead n (Some m) x.byte x.more (y.byte ∷ y.more) wn (λ v is. let same : m ≡ v = cc in subst (λ k. k < 10 ^ 64) same wm) (ends_no_digit x.byte x.ends) joined)
 
 -- of two texts before a quote, the same
 pub record TextsAlike (s t a b : List ℕ) : Type 0 where
@@ -65,9 +63,6 @@ pub record PhrasesAlike (p q : Phrase) (a b : List ℕ) : Type 0 where
   pub phrases : p ≡ q
   pub rests : a ≡ b
 
-first_byte : (a b : ℕ) (xs ys : List ℕ) → a ∷ xs ≡ b ∷ ys → a ≡ b
-first_byte a b xs ys e = cc
-
 pub phrases_alike : (p q : Phrase) (a b : List ℕ) → IsPhrase p → IsPhrase q → IsEnded a → IsEnded b → phrase_text p ++ a ≡ phrase_text q ++ b → PhrasesAlike p q a b
 phrases_alike (Text s) (Text t) a b p q x y e =
     let tails : (s ++ 34 ∷ []) ++ a ≡ (t ++ 34 ∷ []) ++ b = ap (λ (xs : List ℕ). drop 1 xs) e in
@@ -82,18 +77,18 @@ phrases_alike (Blanks n) (Blanks m) a b p q x y e =
     let tails : decimal n ++ a ≡ decimal m ++ b = append_cancel_left (codes "X") (decimal n ++ a) (decimal m ++ b) e in
     let alike = widths_alike n m a b p q x y tails in
     record { phrases = ap Blanks alike.widths; rests = alike.rests }
-phrases_alike (Text s) (Number m) a b p q x y e = let f : ◌≡◌ {A = ℕ} 34 73 = first_byte 34 73 _ _ e in absurd (omega arith)
-phrases_alike (Text s) (Blanks m) a b p q x y e = let f : ◌≡◌ {A = ℕ} 34 88 = first_byte 34 88 _ _ e in absurd (omega arith)
-phrases_alike (Number n) (Text t) a b p q x y e = let f : ◌≡◌ {A = ℕ} 73 34 = first_byte 73 34 _ _ e in absurd (omega arith)
-phrases_alike (Number n) (Blanks m) a b p q x y e = let f : ◌≡◌ {A = ℕ} 73 88 = first_byte 73 88 _ _ e in absurd (omega arith)
-phrases_alike (Blanks n) (Text t) a b p q x y e = let f : ◌≡◌ {A = ℕ} 88 34 = first_byte 88 34 _ _ e in absurd (omega arith)
-phrases_alike (Blanks n) (Number m) a b p q x y e = let f : ◌≡◌ {A = ℕ} 88 73 = first_byte 88 73 _ _ e in absurd (omega arith)
+phrases_alike (Text s) (Number m) a b p q x y e = let f : ◌≡◌ {A = ℕ} 34 73 = same_head 34 73 _ _ e in absurd (omega arith)
+phrases_alike (Text s) (Blanks m) a b p q x y e = let f : ◌≡◌ {A = ℕ} 34 88 = same_head 34 88 _ _ e in absurd (omega arith)
+phrases_alike (Number n) (Text t) a b p q x y e = let f : ◌≡◌ {A = ℕ} 73 34 = same_head 73 34 _ _ e in absurd (omega arith)
+phrases_alike (Number n) (Blanks m) a b p q x y e = let f : ◌≡◌ {A = ℕ} 73 88 = same_head 73 88 _ _ e in absurd (omega arith)
+phrases_alike (Blanks n) (Text t) a b p q x y e = let f : ◌≡◌ {A = ℕ} 88 34 = same_head 88 34 _ _ e in absurd (omega arith)
+phrases_alike (Blanks n) (Number m) a b p q x y e = let f : ◌≡◌ {A = ℕ} 88 73 = same_head 88 73 _ _ e in absurd (omega arith)
 
 -- no phrase begins with the bracket that ends phrases, nor with a comma
 pub phrase_first : (p : Phrase) (a b : List ℕ) (byte : ℕ) → EndsPhrase byte → phrase_text p ++ a ≡ byte ∷ b → ⊥
-phrase_first (Text s) a b byte ends e = let f : 34 ≡ byte = first_byte 34 byte _ _ e in ⊎_elim (λ (h : byte ≡ 44). omega arith) (λ (h : byte ≡ 62). omega arith) ends
-phrase_first (Number n) a b byte ends e = let f : 73 ≡ byte = first_byte 73 byte _ _ e in ⊎_elim (λ (h : byte ≡ 44). omega arith) (λ (h : byte ≡ 62). omega arith) ends
-phrase_first (Blanks n) a b byte ends e = let f : 88 ≡ byte = first_byte 88 byte _ _ e in ⊎_elim (λ (h : byte ≡ 44). omega arith) (λ (h : byte ≡ 62). omega arith) ends
+phrase_first (Text s) a b byte ends e = let f : 34 ≡ byte = same_head 34 byte _ _ e in ⊎_elim (λ (h : byte ≡ 44). omega arith) (λ (h : byte ≡ 62). omega arith) ends
+phrase_first (Number n) a b byte ends e = let f : 73 ≡ byte = same_head 73 byte _ _ e in ⊎_elim (λ (h : byte ≡ 44). omega arith) (λ (h : byte ≡ 62). omega arith) ends
+phrase_first (Blanks n) a b byte ends e = let f : 88 ≡ byte = same_head 88 byte _ _ e in ⊎_elim (λ (h : byte ≡ 44). omega arith) (λ (h : byte ≡ 62). omega arith) ends
 
 -- phrases, each after a comma
 abbrev pub further : List Phrase → List ℕ
@@ -109,8 +104,8 @@ closed_ended (p ∷ ps) = record { byte = 44; more = (phrase_text p ++ further p
 
 pub closed_same : (ps qs : List Phrase) → All IsPhrase ps → All IsPhrase qs → closed ps ≡ closed qs → ps ≡ qs
 closed_same [] [] a b e = refl
-closed_same [] (q ∷ qs) a b e = let f : ◌≡◌ {A = ℕ} 62 44 = first_byte 62 44 _ _ e in absurd (omega arith)
-closed_same (p ∷ ps) [] a b e = let f : ◌≡◌ {A = ℕ} 44 62 = first_byte 44 62 _ _ e in absurd (omega arith)
+closed_same [] (q ∷ qs) a b e = let f : ◌≡◌ {A = ℕ} 62 44 = same_head 62 44 _ _ e in absurd (omega arith)
+closed_same (p ∷ ps) [] a b e = let f : ◌≡◌ {A = ℕ} 44 62 = same_head 44 62 _ _ e in absurd (omega arith)
 closed_same (p ∷ ps) (q ∷ qs) a b e =
     let tails : (phrase_text p ++ further ps) ++ codes ">" ≡ (phrase_text q ++ further qs) ++ codes ">" =
     append_cancel_left (codes ",") ((phrase_text p ++ further ps) ++ codes ">") ((phrase_text q ++ further qs) ++ codes ">") e in

@@ -6,7 +6,7 @@ use Rattle.b67_ops.specs.declared.TheConstants.{OUTER_LEVEL, MOST_LEVEL}
 use Rattle.b67_ops.specs.declared.Operator.TheVariants.{Plain}
 use Rattle.b67_ops.specs.declared.PlainKind.TheVariants.{Noop}
 use Rattle.b67_ops.specs.Spelling.{spelling, OperatorStands}
-use Rattle.b67_ops.proofs.Laws.{length-spelling}
+use Rattle.b67_ops.proofs.Laws.{length_spelling}
 use Rattle.b67_segment.specs.declared.code.Mark.{Mark}
 use Rattle.b67_listing.specs.Operators.{ListedOperator}
 use Rattle.b67_listing.specs.Listings.{StandInOrder}
@@ -19,26 +19,26 @@ spelled p = spelling p.place p.level p.operator
 abbrev pub code_text : List ListedOperator → List ℕ
 code_text ps = flat_map spelled ps
 
-pub width-some : (p : ListedOperator) → 1 ≤ width p
-width-some p = (length-spelling p.place p.level p.operator).0
+pub width_some : (p : ListedOperator) → 1 ≤ width p
+width_some p = (length_spelling p.place p.level p.operator).0
 
-pub order-grows : (at : ℕ) (ps : List ListedOperator) (end : ℕ) → AreInOrder at ps end → at ≤ end
-order-grows at [] end h = omega arith
-order-grows at (p ∷ ps) end h = let later = order-grows (at + width p) ps end h.1 in omega arith
+pub order_grows : (at : ℕ) (ps : List ListedOperator) (end : ℕ) → AreInOrder at ps end → at ≤ end
+order_grows at [] end h = omega arith
+order_grows at (p ∷ ps) end h = let later = order_grows (at + width p) ps end h.1 in omega arith
 
 -- one more operator
-pub order-push : (at : ℕ) (ps : List ListedOperator) (mid : ℕ) (p : ListedOperator) → AreInOrder at ps mid → OperatorCanStand mid p → AreInOrder at (ps ++ p ∷ []) (mid + width p)
-order-push at [] mid p h stands = (subst (λ k. OperatorCanStand k p) (sym h) stands, ap (λ k. k + width p) h)
-order-push at (q ∷ ps) mid p h stands = (h.0, order-push (at + width q) ps mid p h.1 stands)
+pub order_push : (at : ℕ) (ps : List ListedOperator) (mid : ℕ) (p : ListedOperator) → AreInOrder at ps mid → OperatorCanStand mid p → AreInOrder at (ps ++ p ∷ []) (mid + width p)
+order_push at [] mid p h stands = (subst (λ k. OperatorCanStand k p) (sym h) stands, ap (λ k. k + width p) h)
+order_push at (q ∷ ps) mid p h stands = (h.0, order_push (at + width q) ps mid p h.1 stands)
 
-pub order-append : (at : ℕ) (ps : List ListedOperator) (mid : ℕ) (qs : List ListedOperator) (end : ℕ) → AreInOrder at ps mid → AreInOrder mid qs end → AreInOrder at (ps ++ qs) end
-order-append at [] mid qs end h g = subst (λ k. AreInOrder k qs end) (sym h) g
-order-append at (p ∷ ps) mid qs end h g = (h.0, order-append (at + width p) ps mid qs end h.1 g)
+pub order_append : (at : ℕ) (ps : List ListedOperator) (mid : ℕ) (qs : List ListedOperator) (end : ℕ) → AreInOrder at ps mid → AreInOrder mid qs end → AreInOrder at (ps ++ qs) end
+order_append at [] mid qs end h g = subst (λ k. AreInOrder k qs end) (sym h) g
+order_append at (p ∷ ps) mid qs end h g = (h.0, order_append (at + width p) ps mid qs end h.1 g)
 
-pub length-code : (at : ℕ) (ps : List ListedOperator) (end : ℕ) → AreInOrder at ps end → at + length (code_text ps) ≡ end
-length-code at [] end h = omega arith
-length-code at (p ∷ ps) end h =
-    let later = length-code (at + width p) ps end h.1 in
+pub length_code : (at : ℕ) (ps : List ListedOperator) (end : ℕ) → AreInOrder at ps end → at + length (code_text ps) ≡ end
+length_code at [] end h = omega arith
+length_code at (p ∷ ps) end h =
+    let later = length_code (at + width p) ps end h.1 in
     omega (arith, length-append (spelled p) (code_text ps))
 
 -- operators in order fill the syllables that they are
@@ -80,8 +80,8 @@ abbrev pub noops : ℕ → ℕ → ℕ → List ListedOperator
 noops level zero at = []
 noops level (suc count) at = record { place = at; level = level; operator = Plain Noop } ∷ noops level count (at + 1)
 
-pub noops-order : (level count at : ℕ) → OUTER_LEVEL ≤ level → level ≤ MOST_LEVEL → AreInOrder at (noops level count at) (at + count)
-noops-order level zero at least most = omega arith
-noops-order level (suc count) at least most =
+pub noops_order : (level count at : ℕ) → OUTER_LEVEL ≤ level → level ≤ MOST_LEVEL → AreInOrder at (noops level count at) (at + count)
+noops_order level zero at least most = omega arith
+noops_order level (suc count) at least most =
     let same : at + 1 + count ≡ at + suc count = omega arith in
-    (record { place_is = refl; least = least; most = most; fits = tt }, subst (λ k. AreInOrder (at + 1) (noops level count (at + 1)) k) same (noops-order level count (at + 1) least most))
+    (record { place_is = refl; least = least; most = most; fits = tt }, subst (λ k. AreInOrder (at + 1) (noops level count (at + 1)) k) same (noops_order level count (at + 1) least most))

@@ -6,10 +6,11 @@ use Rattle.std.proofs.lemmas.Grind.{flat_map-append}
 use Rattle.std.proofs.lemmas.List.{append-nil, drop-drop, drop_at, drop_all}
 use Rattle.std.proofs.lemmas.List.Elements.{All-nil, All-push, All-head, All-tail}
 use Rattle.b67_text.specs.Texts.{PartStands, HasByte}
-use Rattle.b67_text.proofs.Fronts.{at_byte}
 use Rattle.b67_segment.specs.declared.code.Phrase.{Phrase}
 use Rattle.b67_listing.specs.Formats.{phrase_text, phrases_text}
 use Rattle.b67_listing.specs.Listings.{IsPhrase}
+use Rattle.b67_list.proofs.Lists.{drop_next}
+use Rattle.b67_list.proofs.Truths.{not_both}
 use Rattle.b67_listing_reader.specs.Reading.{IsEnded, ReadsPhrase}
 use Rattle.b67_listing_reader.proofs.OneFormat.{further, closed, closed_ended, opened, phrase_first, phrases_alike}
 
@@ -76,11 +77,6 @@ phrases_past text at next done s past ps each e =
     let left = s.others ps each e in
     left_some done left.later (sym left.tail_is ∙ drop_all next text past)
 
--- the bracket is the last byte
-pub phrases_end : (text : List ℕ) (at next : ℕ) (done : List Phrase) → PhrasesSoFar text at next done → drop next text ≡ 62 ∷ drop (next + 1) text → length text ≤ next + 1 →
-    drop at text ≡ phrases_text done ++ codes ">"
-phrases_end text at next done s here past = s.read ∙ ap (λ t. phrases_text done ++ t) (here ∙ ap (λ t. 62 ∷ t) (drop_all (next + 1) text past))
-
 bracket_last : (done ps : List Phrase) (rest : List ℕ) → 62 ∷ rest ≡ left_text done ps → rest ≡ []
 bracket_last [] [] rest e = let f : 62 ∷ rest ≡ 62 ∷ [] = e in cc
 bracket_last [] (p ∷ ps) rest e = absurd (phrase_first p (closed ps) rest 62 (inr refl) (sym (opened p ps) ∙ sym e))
@@ -105,9 +101,6 @@ pub some_phrases : (done : List Phrase) (count : ℕ) → count ≡ length done 
 some_phrases [] count long some = let both : true ≡ false = ap (λ n. n == 0) (sym long) ∙ some in absurd (cc)
 some_phrases (d ∷ ds) count long some = (d, ds, refl)
 
-not_both : (b : Bool) → b ≡ true → b ≡ false → ⊥
-not_both b e f = let both : true ≡ false = sym e ∙ f in cc
-
 -- how a phrase begins, by whether it is the first
 abbrev pub BeginsBy : List ℕ → ℕ → Bool → ℕ → Type 0
 BeginsBy text next b begin = ((b ≡ true) × (begin ≡ next)) ⊎ ((b ≡ false) × HasByte 44 text next × (begin ≡ next + 1))
@@ -120,7 +113,7 @@ begins_by text next begin (d ∷ ds) count b long is h =
     ⊎_elim (λ (g : (b ≡ true) × (begin ≡ next)). absurd (not_both b g.0 (is ∙ ap (λ n. n == 0) long ∙ ne_eqb (length (d ∷ ds)) 0 (λ e. omega (arith, e)))))
     (λ (g : (b ≡ false) × HasByte 44 text next × (begin ≡ next + 1)).
     let behind : suc next ≡ begin = omega (arith, g.2) in
-    behind_comma d ds (at_byte text next 44 g.1 ∙ ap (λ k. 44 ∷ drop k text) behind)) h
+    behind_comma d ds (drop_next text next 44 g.1 ∙ ap (λ k. 44 ∷ drop k text) behind)) h
 
 pub begins_within : (text : List ℕ) (next begin : ℕ) (b : Bool) → next < length text → BeginsBy text next b begin → begin ≤ length text
 begins_within text next begin b inside h =

@@ -3,12 +3,13 @@ use Rattle.std.proofs.Common.{◌≡◌, ℕ, suc, ◌+◌, ◌-◌, ◌<◌, �
 use Rattle.std.specs.List.{All}
 use Rattle.std.proofs.lemmas.Option.{slice_get_within}
 use Rattle.std.proofs.lemmas.List.{append-nil, drop_all, drop_more}
-use Rattle.std.proofs.lemmas.List.Elements.{All-nil, All-push, All-head, All-tail}
+use Rattle.std.proofs.lemmas.List.Elements.{All-push, All-head, All-tail}
 use Rattle.b67_text.specs.Texts.{PartStands, HasByte}
-use Rattle.b67_text.proofs.Fronts.{at_byte, byte_at, stands_more, stands_none}
+use Rattle.b67_text.proofs.Fronts.{byte_at, stands_more}
 use Rattle.b67_segment.specs.declared.code.Phrase.{Phrase}
 use Rattle.b67_segment.specs.declared.code.Phrase.TheVariants.{Text, Number, Blanks}
 use Rattle.b67_listing.specs.Formats.{phrase_text}
+use Rattle.b67_list.proofs.Lists.{drop_next}
 use Rattle.b67_listing_reader.specs.Reading.{IsTextByte, IsEnded, ReadsPhrase, ReadsQuoted, ReadsText}
 use Rattle.b67_listing_reader.proofs.OneFormat.{texts_alike}
 use Rattle.b67_listing_reader.proofs.PhraseReading.{stands_from}
@@ -23,18 +24,12 @@ pub record QuotedSoFar (text : List ℕ) (at end : ℕ) : Type 0 where
   pub bytes : All IsTextByte quoted
   pub stands : PartStands quoted text at end
 
-pub quoted_none : (text : List ℕ) (at : ℕ) → at ≤ length text → QuotedSoFar text at at
-quoted_none text at inside = record { quoted = []; bytes = All-nil IsTextByte; stands = stands_none text at inside }
-
 pub quoted_more : (text : List ℕ) (at end byte : ℕ) → QuotedSoFar text at end → HasByte byte text end → IsTextByte byte → QuotedSoFar text at (end + 1)
 quoted_more text at end byte q here is = record {
   quoted = q.quoted ++ byte ∷ [];
   bytes = All-push IsTextByte q.quoted byte q.bytes is;
   stands = stands_more q.quoted text at end byte q.stands here;
 }
-
-pub quoted_read : (text : List ℕ) (at end : ℕ) (q : QuotedSoFar text at end) → HasByte 34 text end → ReadsQuoted text at q.quoted end
-quoted_read text at end q here = record { bytes = q.bytes; stands = q.stands; quote = here }
 
 -- a byte that is none of a text ends it, and is no quote
 no_quote : (qs rs : List ℕ) (byte : ℕ) (a b : List ℕ) → All IsTextByte qs → All IsTextByte rs → (IsTextByte byte → ⊥) → (byte ≡ 34 → ⊥) → qs ++ byte ∷ a ≡ rs ++ 34 ∷ b → ⊥
@@ -71,24 +66,24 @@ no_end (x ∷ qs) (r ∷ rs) b p e =
 pub quoted_stops : (text : List ℕ) (at end byte : ℕ) → QuotedSoFar text at end → HasByte byte text end → (IsTextByte byte → ⊥) → (byte ≡ 34 → ⊥) → (quoted : List ℕ) (next : ℕ) → ReadsQuoted text at quoted next → ⊥
 quoted_stops text at end byte q here bad other quoted next r =
     no_quote q.quoted quoted byte (drop (suc end) text) (drop (suc next) text) q.bytes r.bytes bad other
-    (ap (λ t. q.quoted ++ t) (sym (at_byte text end byte here)) ∙ sym q.stands.part_is ∙ r.stands.part_is ∙ ap (λ t. quoted ++ t) (at_byte text next 34 r.quote))
+    (ap (λ t. q.quoted ++ t) (sym (drop_next text end byte here)) ∙ sym q.stands.part_is ∙ r.stands.part_is ∙ ap (λ t. quoted ++ t) (drop_next text next 34 r.quote))
 
 pub quoted_ends : (text : List ℕ) (at end : ℕ) → QuotedSoFar text at end → length text ≤ end → (quoted : List ℕ) (next : ℕ) → ReadsQuoted text at quoted next → ⊥
 quoted_ends text at end q past quoted next r =
     no_end q.quoted quoted (drop (suc next) text) q.bytes
-    (sym (append-nil q.quoted) ∙ ap (λ t. q.quoted ++ t) (sym (drop_all end text past)) ∙ sym q.stands.part_is ∙ r.stands.part_is ∙ ap (λ t. quoted ++ t) (at_byte text next 34 r.quote))
+    (sym (append-nil q.quoted) ∙ ap (λ t. q.quoted ++ t) (sym (drop_all end text past)) ∙ sym q.stands.part_is ∙ r.stands.part_is ∙ ap (λ t. quoted ++ t) (drop_next text next 34 r.quote))
 
 -- the byte at a place is the first of the rest
 first_byte : (text : List ℕ) (at byte : ℕ) → HasByte byte text at → drop at text ≡ byte ∷ drop (at + 1) text
 first_byte text at byte here =
     let next : suc at ≡ at + 1 = omega arith in
-    at_byte text at byte here ∙ ap (λ k. byte ∷ drop k text) next
+    drop_next text at byte here ∙ ap (λ k. byte ∷ drop k text) next
 
 -- texts that are read at one place end at one place
 quoted_once : (text : List ℕ) (at : ℕ) (quoted : List ℕ) (end : ℕ) (other : List ℕ) (last : ℕ) → ReadsQuoted text at quoted end → ReadsQuoted text at other last → end ≡ last
 quoted_once text at quoted end other last a b =
     let alike = texts_alike quoted other (drop (suc end) text) (drop (suc last) text) a.bytes b.bytes
-    (ap (λ t. quoted ++ t) (sym (at_byte text end 34 a.quote)) ∙ sym a.stands.part_is ∙ b.stands.part_is ∙ ap (λ t. other ++ t) (at_byte text last 34 b.quote)) in
+    (ap (λ t. quoted ++ t) (sym (drop_next text end 34 a.quote)) ∙ sym a.stands.part_is ∙ b.stands.part_is ∙ ap (λ t. other ++ t) (drop_next text last 34 b.quote)) in
     omega (arith, ap length alike.texts, a.stands.next_is, b.stands.next_is)
 
 -- a text that nothing ends is none of a phrase
@@ -133,10 +128,10 @@ phrase_text_read text at (Text quoted) next here r =
       ),
     )
 phrase_text_read text at (Number width) next here r =
-    let f : ◌≡◌ {A = ℕ} 34 73 = ap (λ (xs : List ℕ). get_or xs 0 0) (sym (at_byte text at 34 here) ∙ r.stands.part_is) in
+    let f : ◌≡◌ {A = ℕ} 34 73 = ap (λ (xs : List ℕ). get_or xs 0 0) (sym (drop_next text at 34 here) ∙ r.stands.part_is) in
     absurd (omega arith)
 phrase_text_read text at (Blanks width) next here r =
-    let f : ◌≡◌ {A = ℕ} 34 88 = ap (λ (xs : List ℕ). get_or xs 0 0) (sym (at_byte text at 34 here) ∙ r.stands.part_is) in
+    let f : ◌≡◌ {A = ℕ} 34 88 = ap (λ (xs : List ℕ). get_or xs 0 0) (sym (drop_next text at 34 here) ∙ r.stands.part_is) in
     absurd (omega arith)
 
 -- what is read after a quote is what is read at it

@@ -10,16 +10,16 @@ use Rattle.b67_ops.specs.declared.TheConstants.{OUTER_LEVEL}
 use Rattle.b67_segment.specs.declared.code.Segment.{Segment}
 use Rattle.b67_segment.specs.declared.code.Format.{Format}
 use Rattle.b67_segment.specs.Syllables.{syllables}
-use Rattle.b67_segment.proofs.Fetches.{length-syllables}
+use Rattle.b67_segment.proofs.Fetches.{length_syllables}
 use Rattle.b67_listing.specs.Operators.{ListedOperator, operator_line}
 use Rattle.b67_listing.specs.Formats.{format_line, format_lines}
 use Rattle.b67_listing.specs.Listings.{IsSegment, HasOperators, AreListable, SegmentsText, none, more, segment_line, segment_lines, marks_of}
+use Rattle.b67_listing.proofs.Segments.{SegmentsText_push}
 use Rattle.b67_listing_reader.specs.Reading.{AreInOrder, IsWordCount, operator_lines, IsFormat, IsNoOperator, IsNoHead, IsNoFormat}
 use Rattle.b67_listing_reader.specs.Codes.{IsListing}
-use Rattle.b67_listing_reader.proofs.Orders.{code_text, fills, order-append, length-code, noops, noops-order}
+use Rattle.b67_listing_reader.proofs.Orders.{code_text, fills, order_append, length_code, noops, noops_order}
 use Rattle.b67_listing_reader.proofs.Words.{worded}
-use Rattle.b67_listing_reader.proofs.Lines.{code-bytes, IsBytes-from}
-use Rattle.b67_listing_reader.proofs.Segments.{SegmentsText-push}
+use Rattle.b67_listing_reader.proofs.Lines.{code_bytes, IsBytes_from}
 use Rattle.b67_listing_reader.proofs.Ahead.{head_of, tail_of, GoesOn, next_operator, body, one_count, HasNoHead, formats_first, ahead, formats_ahead}
 
 -- what stands after so many lines makes them no beginning of a listing
@@ -81,11 +81,11 @@ whole words ops end count order left =
     let all = ops ++ after in
     let sum : end + (6 * words - end) ≡ 6 * words = omega arith in
     let ordered : AreInOrder 0 all (6 * words) =
-    order-append 0 ops end after (6 * words) order (subst (λ k. AreInOrder end after k) sum (noops-order OUTER_LEVEL (6 * words - end) end (omega arith) (omega arith))) in
-    let long : length (code_text all) ≡ 6 * words = omega (arith, length-code 0 all (6 * words) ordered) in
-    let made = worded words (code_text all) long (IsBytes-from (code_text all) (code-bytes 0 all (6 * words) ordered)) in
+    order_append 0 ops end after (6 * words) order (subst (λ k. AreInOrder end after k) sum (noops_order OUTER_LEVEL (6 * words - end) end (omega arith) (omega arith))) in
+    let long : length (code_text all) ≡ 6 * words = omega (arith, length_code 0 all (6 * words) ordered) in
+    let made = worded words (code_text all) long (IsBytes_from (code_text all) (code_bytes 0 all (6 * words) ordered)) in
     let segment : Segment = record { words = made.words; marks = marks_of 0 all } in
-    let size : 6 * words ≡ length (syllables made.words) = sym (length-syllables made.words ∙ ap (λ k. 6 * k) made.count_is) in
+    let size : 6 * words ≡ length (syllables made.words) = sym (length_syllables made.words ∙ ap (λ k. 6 * k) made.count_is) in
     record {
       segment = segment;
       after = after;
@@ -145,7 +145,7 @@ part_begins : (lines : List (List ℕ)) (count : ℕ) → InPart lines count →
 part_begins lines count p =
     let full = whole p.words p.ops p.end p.word_count p.order p.left in
     let n = length p.segments in
-    let all = SegmentsText-push 0 p.segments p.front full.segment (p.ops ++ full.after) p.listed full.is in
+    let all = SegmentsText_push 0 p.segments p.front full.segment (p.ops ++ full.after) p.listed full.is in
     let listing = is_listing (p.segments ++ full.segment ∷ []) [] (p.front ++ segment_lines (0 + n) full.segment (p.ops ++ full.after)) all (All-nil IsFormat) in
     let zero_sum : 0 + n ≡ n = omega arith in
     let lines_are : segment_lines (0 + n) full.segment (p.ops ++ full.after) ≡ part_lines n p.words p.ops ++ operator_lines full.after =

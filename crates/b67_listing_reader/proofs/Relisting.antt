@@ -7,13 +7,13 @@ use Rattle.b67_segment.specs.declared.code.Format.{Format}
 use Rattle.b67_segment.specs.declared.code.Code.{Code}
 use Rattle.b67_segment.specs.Operators as building
 use Rattle.b67_segment.specs.Syllables.{Spells}
-use Rattle.b67_segment.proofs.Fetches.{length-syllables}
+use Rattle.b67_segment.proofs.Fetches.{length_syllables}
 use Rattle.b67_listing.specs.Formats.{format_lines}
 use Rattle.b67_listing.specs.Listings.{HasOperators, IsListable, ListingText, segment_line}
 use Rattle.b67_listing_reader.specs.Reading.{unplaced, operator_lines, AreOperators, IsFirstOther, IsRelisted, IsFormat}
-use Rattle.b67_listing_reader.proofs.Orders.{length-code}
+use Rattle.b67_listing_reader.proofs.Orders.{length_code}
 use Rattle.b67_listing_reader.proofs.Segments.{one_listed}
-use Rattle.b67_listing_reader.proofs.Built.{text_is, built_segment, spelled_ones, with_noops, order-some}
+use Rattle.b67_listing_reader.proofs.Built.{text_is, built_segment, spelled_ones, with_noops, order_some}
 
 -- what is built of operators is a segment of them and NOOPs
 has_operators : (operators : List building.Placed) (segment : Segment) → AreOperators operators → Spells (building.filled operators) segment → HasOperators segment
@@ -23,8 +23,8 @@ has_operators operators segment a spells =
     let spelled : Spells (unplaced more.all) segment = subst (λ us. Spells us segment) same spells in
     let end = a.end + building.missing a.end in
     let size : 6 * length segment.words ≡ end =
-    sym (length-syllables segment.words) ∙ ap length (spelled.code ∙ text_is 0 more.all end more.order) ∙ omega (arith, length-code 0 more.all end more.order) in
-    let first = order-some a.placed a.end a.order a.some in
+    sym (length_syllables segment.words) ∙ ap length (spelled.code ∙ text_is 0 more.all end more.order) ∙ omega (arith, length_code 0 more.all end more.order) in
+    let first = order_some a.placed a.end a.order a.some in
     let few = a.few in
     (more.all, built_segment segment more.all end more.order spelled (omega arith) (omega arith))
 

@@ -1,5 +1,5 @@
 -- An operator that is told by its line.
-use Rattle.std.proofs.Common.{◌≡◌, ℕ, ◌+◌, ◌-◌, ◌%◌, ◌≤◌, Option, Some, None, List, ◌∷◌, ◌++◌, length, replicate, refl, sym, ap, subst, arith, ◌∙◌, length-append}
+use Rattle.std.proofs.Common.{◌≡◌, ℕ, ◌+◌, ◌-◌, ◌%◌, ◌≤◌, Option, Some, List, ◌∷◌, ◌++◌, length, replicate, refl, sym, ap, subst, arith, ◌∙◌, length-append}
 use Rattle.std.specs.Int.{bytes_high_first}
 use Rattle.b67_ops.specs.declared.TheConstants.{OUTER_LEVEL, MOST_LEVEL}
 use Rattle.b67_ops.specs.declared.Operator.{Operator}
@@ -7,7 +7,7 @@ use Rattle.b67_ops.specs.declared.Operator.TheVariants.{Valc, Namc, Lt8, Lt16, L
 use Rattle.b67_ops.specs.declared.table.OperatorKind.TheVariants as kinds
 use Rattle.b67_ops.specs.Codes.{code_of}
 use Rattle.b67_ops.specs.Spelling.{spelling, Fits, filling, OperatorStands}
-use Rattle.b67_ops.proofs.Laws.{Stands-appended, Stands-unique}
+use Rattle.b67_ops.proofs.Laws.{Stands_appended, Stands_unique}
 use Rattle.b67_listing.specs.Operators.{ListedOperator, operator_line}
 use Rattle.b67_listing_reader.specs.declared.operators.Told.{Told}
 use Rattle.b67_listing_reader.specs.Reading.{OperatorCanStand, width, level_part, syllables_in, TellsNone, LinesTell}
@@ -49,17 +49,11 @@ known line old new text level at p before found added can e =
     ap (syllables_in 12) texts ∙ text_back p can.fits ∙ ap (λ k. spelling k p.level p.operator) can.place_is ∙ ap (λ l. spelling at l p.operator) levels ∙ sym (here old at level p.operator before) in
     let new_is : new ≡ old ++ spelling (length old) level p.operator = added ∙ ap (λ t. old ++ t) spelled_is in
     let long : length new ≡ length old + length (spelling (length old) level p.operator) = ap length new_is ∙ length-append old (spelling (length old) level p.operator) in
-    let appended = Stands-appended old level p.operator (subst (λ l. Fits l p.operator) levels can.fits) in
+    let appended = Stands_appended old level p.operator (subst (λ l. Fits l p.operator) levels can.fits) in
     record {
       level_is = levels;
       stands = subst (λ k. OperatorStands new (length old) level p.operator k) (sym long) (subst (λ bs. OperatorStands bs (length old) level p.operator (length old + length (spelling (length old) level p.operator))) (sym new_is) appended);
     }
-
--- a line with no level is that of none
-pub no_level : (line : List ℕ) (at : ℕ) → level_part line ≡ None → TellsNone line at
-no_level line at none p can e =
-    let both : ◌≡◌ {A = Option (ℕ × List ℕ)} None (Some (p.level, line_tail p)) = sym none ∙ ap level_part e ∙ level_back p can.least can.most in
-    cc
 
 -- syllables that are no operator's
 pub no_syllables : (line old new text : List ℕ) (level at : ℕ) → IsBefore old at → level_part line ≡ Some (level, text) → new ≡ old ++ syllables_in 12 text →
@@ -71,7 +65,7 @@ no_syllables line old new text level at before found added none p can e =
 pub no_end : (line old new text : List ℕ) (level at : ℕ) (op : Operator) (next : ℕ) → IsBefore old at → level ≤ MOST_LEVEL → level_part line ≡ Some (level, text) → new ≡ old ++ syllables_in 12 text →
     OperatorStands new (length old) level op next → (next ≡ length new → ⊥) → TellsNone line at
 no_end line old new text level at op next before small found added stands other p can e =
-    other (Stands-unique small stands (known line old new text level at p before found added can e).stands).1
+    other (Stands_unique small stands (known line old new text level at p before found added can e).stands).1
 
 -- and one that is told
 pub tells : (line old new text : List ℕ) (level at : ℕ) (op : Operator) (next : ℕ) (told : Told) → IsBefore old at → OUTER_LEVEL ≤ level → level ≤ MOST_LEVEL →
@@ -87,7 +81,7 @@ tells line old new text level at op next told before least small found added sta
         stands = record { place_is = refl; least = least; most = small; fits = stands.fits };
         only = λ other can e.
             let k = known line old new text level at other before found added can e in
-            let one = Stands-unique small stands k.stands in
+            let one = Stands_unique small stands k.stands in
             ap (λ n. let r : ListedOperator = record { place = n; level = other.level; operator = other.operator } in r) can.place_is
             ∙ ap (λ l. let r : ListedOperator = record { place = at; level = l; operator = other.operator } in r) k.level_is
             ∙ ap (λ o. let r : ListedOperator = record { place = at; level = level; operator = o } in r) (sym one.0);

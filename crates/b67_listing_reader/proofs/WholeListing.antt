@@ -10,9 +10,9 @@ use Rattle.b67_listing_reader.specs.declared.refusal.ReadListing.{ReadListing}
 use Rattle.b67_listing_reader.specs.declared.refusal.ReadListing.TheVariants.{BadListing, NoMemory}
 use Rattle.b67_listing.specs.Formats.{format_lines}
 use Rattle.b67_listing.specs.Listings.{IsListable, SegmentsText, segment_line, segment_lines, ListingText}
+use Rattle.b67_listing.proofs.Segments.{SegmentsText_push}
 use Rattle.b67_listing_reader.specs.Codes.{ListingRefuses}
 use Rattle.b67_listing_reader.specs.Reading.{operator_lines, RefusesBody, RefusesFormats, ReadsBody, ReadsSegments, ReadsFormats, IsWordCount, IsNoHead}
-use Rattle.b67_listing_reader.proofs.Segments.{SegmentsText-push}
 use Rattle.b67_listing_reader.proofs.Refusals.{part_refused, behind_refused, are_listable}
 
 -- the items before a place, and what stands there
@@ -42,7 +42,7 @@ segment_more segments lines at next words segment before inside here r =
     ap (λ k. segment_line k (length segment.words) ∷ operator_lines r.operators) none_before ∙ ap (λ w. segment_line n w ∷ operator_lines r.operators) r.words_are in
     subst (λ ls. SegmentsText 0 (segments ++ segment ∷ []) ls)
     (ap (λ ls. take at lines ++ ls) are ∙ sym (taken (segment_line n words ∷ operator_lines r.operators) lines at next (behind_head (segment_line n words) (operator_lines r.operators) lines at next inside here r.stands)))
-    (SegmentsText-push 0 segments (take at lines) segment r.operators before r.segment_is)
+    (SegmentsText_push 0 segments (take at lines) segment r.operators before r.segment_is)
 
 -- a refusal in a segment
 pub body_refused : (e : ReadListing) (segments : List Segment) (lines : List (List ℕ)) (at words : ℕ) → SegmentsText 0 segments (take at lines) → at < length lines → IsWordCount words →

@@ -14,7 +14,7 @@ use Rattle.b67_load.specs.Closed.{NoneOpen, first_on}
 
 -- ---- the first stack is opened where none is open
 
-not_zero : (k : ℕ) → suc k ≢ 0
+pub not_zero : (k : ℕ) → suc k ≢ 0
 not_zero k e = cc
 
 module _ (old one : Stacks) (xs : List Word) (none : NoneOpen old) (is : one ≡ opened_at old 0 xs) where

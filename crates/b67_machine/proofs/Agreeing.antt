@@ -16,7 +16,7 @@ use Rattle.b67_machine.specs.Replaying.{NoneDiffers, AgreeBy, AgreeAs, GoOnAs, f
 
 -- ---- as many letters as entries
 
-letters_long : {code : Code} {history counts : List ℕ} {img : Image} (r : Runs code history counts img) → length (letters r) ≡ length history
+pub letters_long : {code : Code} {history counts : List ℕ} {img : Image} (r : Runs code history counts img) → length (letters r) ≡ length history
 letters_long begin = refl
 letters_long (entry before e) = ap suc (letters_long before)
 

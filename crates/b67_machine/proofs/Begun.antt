@@ -5,7 +5,7 @@ use Rattle.b67_segment.specs.declared.code.Code.{Code}
 use Rattle.b67_machine.specs.Kept.{or_none, operators_counted}
 use Rattle.b67_machine.specs.Tables.{AreTables}
 
-zero_at : (n k : ℕ) → or_none (slice_get (replicate n 0) k) ≡ 0
+pub zero_at : (n k : ℕ) → or_none (slice_get (replicate n 0) k) ≡ 0
 zero_at zero k = refl
 zero_at (suc n) zero = refl
 zero_at (suc n) (suc k) = zero_at n k

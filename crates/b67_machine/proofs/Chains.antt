@@ -13,6 +13,7 @@ use Rattle.b67_table.specs.Table.{plain}
 use Rattle.b67_table.specs.Valid.{IsValid}
 use Rattle.b67_table.proofs.Lists.{numbered_set}
 use Rattle.b67_table.proofs.Stacks.{get_numbered_other}
+use Rattle.b67_table.proofs.Waking.{able_live}
 use Rattle.b67_action.specs.declared.done.Done.{Done}
 use Rattle.b67_action.specs.declared.done.Done.TheVariants.{Went}
 use Rattle.b67_action.specs.Able.{able_in, AbleAfter}
@@ -32,7 +33,7 @@ use Rattle.b67_machine.proofs.Ends.{goes_on, same_end, no_end}
 use Rattle.b67_machine.proofs.Failures.{acts_by, without}
 use Rattle.b67_machine.proofs.Going.{still_goes}
 use Rattle.b67_machine.proofs.Lasting.{went_goes}
-use Rattle.b67_machine.proofs.Plainly.{live_of, plains_keep}
+use Rattle.b67_machine.proofs.Plainly.{plains_keep}
 
 -- ---- counts
 
@@ -157,7 +158,7 @@ module _ (p most : ℕ) (old : MachineModel) (ns : List Letter) (m : ℕ) (a : M
 
     goes_then : MachineGoes e.last p j quiet
     goes_then =
-        let keeps = plains_keep a.code p b c j e.valid (live_of (numbered b.states p) able_then) plains in
+        let keeps = plains_keep a.code p b c j e.valid (able_live (numbered b.states p) able_then) plains in
         record {
           performed = subst (λ (x : Code). Plains x p e.last.image j c) (sym code_is) (subst (λ (x : Image). Plains a.code p x j c) (sym e.image) plains);
           counts = counts_more e.last.counts p j number e.known;
@@ -169,7 +170,7 @@ module _ (p most : ℕ) (old : MachineModel) (ns : List Letter) (m : ℕ) (a : M
 
     no_fault : d.fault ≡ None
     no_fault =
-        on.calm.fault ∙ (plains_keep a.code p b c j e.valid (live_of (numbered b.states p) able_then) plains).fault ∙ e.fault ∙ (goes_on a going).fault
+        on.calm.fault ∙ (plains_keep a.code p b c j e.valid (able_live (numbered b.states p) able_then) plains).fault ∙ e.fault ∙ (goes_on a going).fault
 
     steps_then : Steps quiet p Went after
     steps_then =
@@ -187,7 +188,7 @@ module _ (p most : ℕ) (old : MachineModel) (ns : List Letter) (m : ℕ) (a : M
     one_extended : Extended (ks ++ named ∷ []) (l + (j + 1)) d
     one_extended =
         let m_is : m + l + (j + 1) ≡ m + (l + (j + 1)) = omega arith in
-        let keeps = plains_keep a.code p b c j e.valid (live_of (numbered b.states p) able_then) plains in
+        let keeps = plains_keep a.code p b c j e.valid (able_live (numbered b.states p) able_then) plains in
         record {
           last = after;
           enters = subst (λ (xs : List Letter). EntriesFollow p most old xs (m + (l + (j + 1))) after) (append_assoc ns ks (named ∷ []))
@@ -344,7 +345,7 @@ module _ (a new : MachineModel) (p most : ℕ) (ran : Ran) (noted : List Letter)
 
   goes_one : MachineGoes a p walk.k quiet_one
   goes_one =
-      let keeps = plains_keep a.code p a.image walk.quiet walk.k h.begun (live_of (numbered a.image.states p) able) walk.plains in
+      let keeps = plains_keep a.code p a.image walk.quiet walk.k h.begun (able_live (numbered a.image.states p) able) walk.plains in
       record {
         performed = walk.plains;
         counts = counts_more a.counts p walk.k h.number h.known;

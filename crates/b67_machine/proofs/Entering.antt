@@ -17,12 +17,13 @@ use Rattle.b67_table.specs.Image.{Image, is_able}
 use Rattle.b67_table.specs.Ending.{ImageEnd, image_end, may_act, failed}
 use Rattle.b67_table.specs.Ending as ending
 use Rattle.b67_table.specs.Outcome.{gives, faults, interrupts, limit}
-use Rattle.b67_table.specs.Runs.{Runs, begin, entry, Plains, Tails, count_of, acts, fails}
+use Rattle.b67_table.specs.Runs.{entry, Plains, Tails, count_of, acts, fails}
 use Rattle.b67_table.specs.Runs as runs
 use Rattle.b67_table.specs.Sound.{Sound}
 use Rattle.b67_table.specs.Table.{table, plain}
 use Rattle.b67_table.specs.Valid.{IsValid, waits}
 use Rattle.b67_table.proofs.Lists.{numbered_within}
+use Rattle.b67_table.proofs.Cited.{history_within, may_by}
 use Rattle.b67_intrinsics.specs.Called.{ImageIsLeft}
 use Rattle.b67_action.specs.declared.done.Done.{Done}
 use Rattle.b67_action.specs.declared.done.Done.TheVariants as dones
@@ -65,12 +66,6 @@ counts_none false x y e = omega (arith, e)
 same_counts : (before after : List ℕ) (p q : ℕ) → Counts before p 0 after → operators_counted after q ≡ operators_counted before q
 same_counts before after p q c = counts_none (nat_eq q p) (operators_counted after q) (operators_counted before q) (counts_more before after p 0 q c)
 
--- each entry has an operator at least
-history_within : (code : Code) (h numbers : List ℕ) (img : Image) → Runs code h numbers img → length h ≤ sum numbers
-history_within code h numbers img begin = omega arith
-history_within code h numbers img (entry {h = g} {counts = ns} {a = a} {n = n} before e) =
-    omega (arith, history_within code g ns a before, sum_by-cons (λ (x : ℕ). x) (n + 1) ns)
-
 pub done_within : (code : Code) (done : List ℕ) (noted : List Letter) (spent : ℕ) (m : MachineModel) → Between code done noted spent m → length done ≤ spent
 done_within code done noted spent m b =
     omega (arith, ap length b.order, length-reverse b.history, history_within code b.history b.numbers m.image b.runs, b.spends)
@@ -80,10 +75,6 @@ counts_none_more true x y e = omega (arith, e)
 counts_none_more false x y e = omega (arith, e)
 
 -- ---- an entry
-
-may_by : (img : Image) (p : ℕ) → image_end img ≡ None → is_able (numbered img.states p) ≡ true → may_act img p ≡ true
-unfolding may_act
-may_by img p e able = ap (λ (o : Option ImageEnd). ending.goes_on o (is_able (numbered img.states p))) e ∙ able
 
 abbrev pub HasState : ℕ → Image → Type 0
 HasState p img = (x : ProcessState) × (numbered img.states p ≡ Some x)
@@ -104,7 +95,7 @@ Comes code budget done noted spent p new (Some dones.NoMemory) = Advances code b
 Comes code budget done noted spent p new (Some (dones.Interrupt kind)) = ⊥
 Comes code budget done noted spent p new (Some d) = FollowsOn code budget done noted spent p new
 
-state_of : (o : Option ProcessState) → is_able o ≡ true → (x : ProcessState) × (o ≡ Some x)
+pub state_of : (o : Option ProcessState) → is_able o ≡ true → (x : ProcessState) × (o ≡ Some x)
 state_of None e = cc
 state_of (Some x) e = (x, refl)
 
@@ -311,11 +302,11 @@ number_within code img p v k = omega (arith, numbered_within img.states p k.0 k.
 
 -- ---- before an entry
 
-part : (b : Bool) (n x s : ℕ) → x ≤ s → (if b then n else 0) + x ≤ n + s
+pub part : (b : Bool) (n x s : ℕ) → x ≤ s → (if b then n else 0) + x ≤ n + s
 part true n x s h = omega (arith, h)
 part false n x s h = omega (arith, h)
 
-count_most : (p : ℕ) (h numbers : List ℕ) → count_of p h numbers ≤ sum numbers
+pub count_most : (p : ℕ) (h numbers : List ℕ) → count_of p h numbers ≤ sum numbers
 count_most p [] numbers = omega arith
 count_most p (q ∷ h) [] = omega arith
 count_most p (q ∷ h) (n ∷ numbers) =

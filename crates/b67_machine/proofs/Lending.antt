@@ -1,5 +1,5 @@
 -- What a process does on its own stack, among all processes of the machine.
-use Rattle.std.proofs.Common.{◌≡◌, refl, sym, ap, subst, ◌∙◌, ℕ, zero, suc, ◌-◌, ◌≤◌, Bool, true, List, [], set, get_or, Option, Some, arith}
+use Rattle.std.proofs.Common.{◌≡◌, refl, sym, ap, subst, ◌∙◌, ℕ, ◌-◌, Bool, true, List, set, get_or, Option, Some}
 use Rattle.b67_list.specs.Numbered.{numbered}
 use Rattle.b67_control.specs.declared.Registers.{Registers}
 use Rattle.b67_deeds.specs.declared.Letter.{Letter}
@@ -13,7 +13,6 @@ use Rattle.b67_reach.specs.Images.{own_of_image, with_own}
 use Rattle.b67_action.specs.declared.running.Ran.{Ran}
 use Rattle.b67_action.specs.Reaching.{ProcessIsIn}
 use Rattle.b67_action.specs.Running.{HasRun}
-use Rattle.b67_machine.specs.Chaining.{released_after}
 use Rattle.b67_machine.specs.Kept.{MachineModel}
 use Rattle.b67_machine.proofs.Plainly.{own_is}
 
@@ -39,11 +38,3 @@ kept_with old new released last c r l k n =
     ∙ ap (λ (x : Option Letter). record new { code = old.code; released = released; limit = old.limit; lacked = old.lacked; letter = x }) n
 
 -- ---- whom the last of so many entries has released
-
-pub released_some : (n : ℕ) (before : List ℕ) → 1 ≤ n → released_after n before ≡ []
-released_some zero before h = absurd (omega (arith, h))
-released_some (suc n) before h = refl
-
-pub released_none : (n : ℕ) (before : List ℕ) → n ≤ 0 → released_after n before ≡ before
-released_none zero before h = refl
-released_none (suc n) before h = absurd (omega (arith, h))

@@ -17,6 +17,7 @@ use Rattle.b67_table.specs.Look.{read_as}
 use Rattle.b67_table.specs.Valid.{IsFrame, IsProcess, AreRows, IsValid, is_no_mother}
 use Rattle.b67_table.proofs.FirstValid.{first_is_valid}
 use Rattle.b67_load.specs.Closed.{NoneOpen, first_on}
+use Rattle.b67_load.proofs.Built.{not_zero}
 use Rattle.b67_machine.specs.Beginning.{IsUntried, IsFresh}
 use Rattle.b67_machine.specs.Kept.{MachineModel}
 
@@ -34,9 +35,6 @@ fresh_on stacks rows {m} e f u = subst (λ (x : Image). IsUntried x m) (first_on
 
 -- ---- stacks: at each number the first image's
 
-not_same : (k : ℕ) → suc k ≢ 0
-not_same k e = cc
-
 not_one : (k : ℕ) → suc (suc k) ≢ 1
 not_one k e = omega (arith, e)
 
@@ -48,7 +46,7 @@ module _ (stacks : Stacks) (rows : Rows) (no_stack : NoneOpen stacks) (no_row : 
   unfolding first_image one
   same_stack zero = opened_others one 1 0 base_frame (λ (e : 0 ≡ 1). cc) ∙ opened_here stacks 0 system_stack
   same_stack (suc zero) = opened_here one 1 base_frame
-  same_stack (suc (suc k)) = opened_others one 1 (suc (suc k)) base_frame (not_one k) ∙ opened_others stacks 0 (suc (suc k)) system_stack (not_same (suc k)) ∙ no_stack (suc (suc k))
+  same_stack (suc (suc k)) = opened_others one 1 (suc (suc k)) base_frame (not_one k) ∙ opened_others stacks 0 (suc (suc k)) system_stack (not_zero (suc k)) ∙ no_stack (suc (suc k))
 
   same_words : (n : ℕ) → words_of (first_on stacks rows).stacks n ≡ words_of first_image.stacks n
   same_words n = ap words_or (same_stack n)

@@ -1,54 +1,33 @@
 -- What plain operators of a process leave as it is.
-use Rattle.std.specs.Prelude.{◌&&◌}
-use Rattle.std.proofs.Common.{◌≡◌, refl, ap, ◌∙◌, ℕ, zero, suc, ◌-◌, ◌<◌, ◌≤◌, Bool, true, false, List, [], ◌∷◌, length, get_or, Option, Some, None, IsSome, arith}
+use Rattle.std.proofs.Common.{◌≡◌, refl, ap, ◌∙◌, ℕ, zero, suc, ◌-◌, ◌<◌, ◌≤◌, true, List, length, get_or, Option, Some, None, IsSome, arith}
 use Rattle.std.proofs.lemmas.Option.{get_or_from_slice_get, slice_get_read}
 use Rattle.b67_list.specs.Numbered.{numbered}
 use Rattle.b67_control.specs.declared.Registers.{Registers}
 use Rattle.b67_segment.specs.declared.code.Code.{Code}
 use Rattle.b67_table.specs.declared.ProcessState.{ProcessState}
 use Rattle.b67_table.specs.declared.ProcessState.TheVariants as states
-use Rattle.b67_table.specs.Image.{Image, is_able, is_live}
+use Rattle.b67_table.specs.Image.{Image, is_live}
 use Rattle.b67_table.specs.Outcome.{gives}
 use Rattle.b67_table.specs.Runs.{Plains, stay, go}
-use Rattle.b67_table.specs.Table.{table, plain, private_next, is_new}
+use Rattle.b67_table.specs.Table.{table, plain}
 use Rattle.b67_table.specs.Valid.{IsValid}
 use Rattle.b67_table.proofs.AllValid.{operators_keep_valid}
 use Rattle.b67_table.proofs.FirstValid.{valid_stands}
 use Rattle.b67_table.proofs.Limit.{limit_comes_last}
 use Rattle.b67_table.proofs.Lists.{numbered_from, numbered_within}
 use Rattle.b67_table.proofs.Privacy.{private_is_private}
-
-pub live_of : (o : Option ProcessState) → is_able o ≡ true → is_live o ≡ true
-live_of None e = cc
-live_of (Some states.Able) e = refl
-live_of (Some (states.WaitsFor at)) e = cc
-live_of (Some states.WaitsAny) e = cc
-live_of (Some (states.Procures at)) e = cc
-live_of (Some states.Ended) e = cc
+use Rattle.b67_action.proofs.Lent.{private_of_plain}
+use Rattle.b67_action.proofs.Ready.{there}
 
 some_of : {A : Type 0} (o : Option A) → IsSome o → (x : A) × (o ≡ Some x)
 some_of None e = cc
 some_of (Some x) e = (x, refl)
-
-both : (a b : Bool) → (a && b) ≡ true → a ≡ true
-both true b e = refl
-both false b e = cc
-
-private_of_plain : (code : Code) (img : Image) (p : ℕ) → plain code img p ≡ true → private_next code img p ≡ true
-unfolding plain
-private_of_plain code img p e = both (private_next code img p) (is_new (table code img p)) e
 
 pub record Keeps (code : Code) (a b : Image) : Type 0 where
   pub valid : IsValid code b
   pub states : b.states ≡ a.states
   pub started : b.started ≡ a.started
   pub fault : b.fault ≡ a.fault
-
-there : {X : Type 0} (xs : List X) (p : ℕ) → 1 ≤ p → p ≤ length xs → IsSome (numbered xs p)
-there xs zero o h = absurd (omega (arith, o))
-there [] (suc k) o h = absurd (omega (arith, h))
-there (x ∷ xs) (suc zero) o h = refl
-there (x ∷ xs) (suc (suc k)) o h = there xs (suc k) (omega arith) (omega (arith, h))
 
 number_of : (xs : List ProcessState) (p : ℕ) (o : Option ProcessState) → numbered xs p ≡ o → is_live o ≡ true → (1 ≤ p) × (p ≤ length xs)
 number_of xs p None e l = cc

@@ -13,6 +13,7 @@ use Rattle.b67_table.specs.Image.{Image, with_private, is_able, is_live}
 use Rattle.b67_table.specs.Valid.{IsValid}
 use Rattle.b67_table.proofs.FirstValid.{counted}
 use Rattle.b67_table.proofs.Lists.{numbered_set, numbered_within}
+use Rattle.b67_table.proofs.Waking.{able_live}
 use Rattle.b67_operators.specs.Leaves.{IsLinkedIn}
 use Rattle.b67_linkage.proofs.Linked.{live_are_linked}
 use Rattle.b67_private.specs.Parts.{IsPrivatePart, part_with}
@@ -23,7 +24,7 @@ use Rattle.b67_action.specs.declared.running.Ran.{Ran}
 use Rattle.b67_action.specs.Running.{IsLent, given_back, HasRun}
 use Rattle.b67_machine.specs.Parts.{kept_from, bottom, whole_part, IsFull}
 use Rattle.b67_machine.specs.Chaining.{RunsTo}
-use Rattle.b67_machine.proofs.Plainly.{live_of, live_there}
+use Rattle.b67_machine.proofs.Plainly.{live_there}
 
 -- ---- the whole part of a process
 
@@ -51,7 +52,7 @@ pub whole_is_part : (code : Code) (img : Image) (p : ℕ) (part : Private) → I
 whole_is_part code img p part v able e =
     let h = whole_of img p part e in
     let words : reverse (words_of img.stacks part.regs.stack) ≡ part.words = ap reverse h.words ∙ reverse-reverse part.words in
-    subst (λ (ws : List Word). IsPrivatePart (part_with part.regs ws)) words (valid_whole code img p part.regs v (live_of (numbered img.states p) able) h.has)
+    subst (λ (ws : List Word). IsPrivatePart (part_with part.regs ws)) words (valid_whole code img p part.regs v (able_live (numbered img.states p) able) h.has)
 
 -- ---- on the room of a copy
 
@@ -82,7 +83,7 @@ module _ (code : Code) (start : Private) (room last : List Word) (q : Registers)
     pub end_within : (img : Image) → IsValid code img → is_able (numbered img.states p) ≡ true → whole_part img p ≡ Some start → q.s ≤ stack_limit
     end_within img v able e =
         let l = lent_whole img p v able e in
-        let live : is_live (numbered img.states p) ≡ true = live_of (numbered img.states p) able in
+        let live : is_live (numbered img.states p) ≡ true = able_live (numbered img.states p) able in
         ((run img l).valid.processes p q live (numbered_set img.regs p q (counted p start.regs img.regs l.has) (numbered_within img.regs p start.regs l.has))).room
 
   module _ (long : length last ≡ length room) (size : length room ≡ stack_limit) (within : q.s ≤ stack_limit) where
@@ -104,7 +105,7 @@ module _ (code : Code) (start : Private) (room last : List Word) (q : Registers)
 module _ (code : Code) (img : Image) (p most : ℕ) (end : Private) (ran : Ran) (noted : List Letter) (v : IsValid code img) (able : is_able (numbered img.states p) ≡ true)
     (run : HasRun code p most img ran noted (with_private img p 0 end)) where
   live : is_live (numbered img.states p) ≡ true
-  live = live_of (numbered img.states p) able
+  live = able_live (numbered img.states p) able
 
   found : (r : Registers) × (numbered img.regs p ≡ Some r)
   found = live_there code img p v live

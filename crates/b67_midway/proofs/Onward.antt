@@ -6,12 +6,13 @@ use Rattle.b67_segment.specs.declared.code.Code.{Code}
 use Rattle.b67_table.specs.Image.{Image}
 use Rattle.b67_table.specs.Ending.{image_end}
 use Rattle.b67_table.specs.Runs.{TableRun}
+use Rattle.b67_table.proofs.Cited.{number_there}
 use Rattle.b67_machine.specs.Kept.{MachineModel}
 use Rattle.b67_machine.specs.declared.replay.Replayed.{Replayed}
 use Rattle.b67_machine.specs.declared.replay.Replayed.TheVariants.{Ended, Ran, Illegal, BudgetSpent, NoMemory, Differs}
 use Rattle.b67_machine.specs.Replaying.{ReplayAnswers, ReplaysEntries, NoneDiffers, tails_of, is_lacking}
 use Rattle.b67_fronts.specs.Fronts.{GoesThrough}
-use Rattle.b67_fronts.proofs.Onward.{fronts_go_on, alike, numbers_able}
+use Rattle.b67_fronts.proofs.Onward.{fronts_go_on, alike}
 
 nothing_is : (p : ℕ) (left : List ℕ) → p ∷ left ≡ [] → ⊥
 nothing_is p left e = cc
@@ -33,7 +34,7 @@ module _ (code : Code) (budget : ℕ) (done : List ℕ) (new : MachineModel) whe
   -- no process has the number 0
   never_ended : (spent tail : ℕ) (image : Image) → ReplayAnswers code budget spent done (0 ∷ []) tail image new Ended → ⊥
   never_ended spent tail image (inl a) = nothing_is 0 [] a.1
-  never_ended spent tail image (inr a) = let least : 1 ≤ 0 = numbers_able image 0 a.1 in omega (arith, least)
+  never_ended spent tail image (inr a) = let least : 1 ≤ 0 = number_there image 0 a.1 in omega (arith, least)
 
   never_ran : (spent tail : ℕ) (image : Image) → ReplayAnswers code budget spent done (0 ∷ []) tail image new Ran → ⊥
   never_ran spent tail image a = nothing_is 0 [] a.1

@@ -1,5 +1,5 @@
 -- What is told of a process that lives, and of another one.
-use Rattle.std.proofs.Common.{arith, ◌≡◌, ap, sym, ◌∙◌, subst, ℕ, ◌≤◌, Bool, true, false, List, length, length-drop, drop, Option, Some, ◌+◌, [], ◌∷◌, ◌++◌, take}
+use Rattle.std.proofs.Common.{arith, ◌≡◌, ap, sym, ◌∙◌, subst, ℕ, ◌≤◌, List, length, length-drop, drop, Some, ◌+◌, [], ◌∷◌, ◌++◌, take}
 use Rattle.std.specs.Prelude.{slice_get}
 use Rattle.std.proofs.lemmas.List.{length-reverse, take_more}
 use Rattle.std.proofs.lemmas.Option.{get_or_from_slice_get, slice_get_within}
@@ -8,20 +8,9 @@ use Rattle.b67_word.specs.Word.{Word}
 use Rattle.b67_control.specs.declared.Registers.{Registers}
 use Rattle.b67_store.specs.Store.{words_of}
 use Rattle.b67_table.specs.declared.Private.{Private}
-use Rattle.b67_table.specs.Image.{Image, is_live, private_of}
+use Rattle.b67_table.specs.Image.{Image, private_of}
 use Rattle.b67_table.specs.Private.{floor}
 use Rattle.b67_machine.specs.Parts.{part_by, private_part, IsWholePart}
-use Rattle.b67_stack_text.specs.Lines.{no_process_text}
-use Rattle.b67_midway.specs.Telling.{if_lives, process_text}
-
-lives_so : (b : Bool) (o : Option Registers) (r : Registers) (otherwise : List ℕ) (text : Registers → List ℕ) → b ≡ true → o ≡ Some r → if_lives b o otherwise text ≡ text r
-lives_so b o r otherwise text e f = ap (λ (x : Bool). if_lives x o otherwise text) e ∙ ap (λ (y : Option Registers). if_lives true y otherwise text) f
-
-pub told_live : (img : Image) (p : ℕ) (r : Registers) (text : Registers → List ℕ) → numbered img.regs p ≡ Some r → is_live (numbered img.states p) ≡ true → process_text img p text ≡ text r
-told_live img p r text own live = lives_so (is_live (numbered img.states p)) (numbered img.regs p) r (no_process_text p) text live own
-
-pub told_none : (img : Image) (p : ℕ) (text : Registers → List ℕ) → is_live (numbered img.states p) ≡ false → process_text img p text ≡ no_process_text p
-told_none img p text dead = ap (λ (x : Bool). if_lives x (numbered img.regs p) (no_process_text p) text) dead
 
 value : {a b : Private} → Some a ≡ Some b → a ≡ b
 value e = cc

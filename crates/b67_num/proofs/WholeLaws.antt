@@ -10,14 +10,14 @@ use Rattle.b67_num.specs.declared.NumFault.{NumFault}
 use Rattle.b67_num.specs.declared.NumFault.TheVariants.{RealResult}
 
 -- a number of at most the greatest magnitude is its own exact result
-pub whole-fitting : (z : ℤ) → unsigned_abs z ≤ most → whole z ≡ Ok z
+pub whole_fitting : (z : ℤ) → unsigned_abs z ≤ most → whole z ≡ Ok z
 unfolding whole
-whole-fitting z h = grind (arith)
+whole_fitting z h = grind (arith)
 
 -- an exact result that is there is the number itself, and small enough
-pub whole-ok : (z y : ℤ) → whole z ≡ Ok y → (z ≡ y) × (unsigned_abs y ≤ most)
+pub whole_ok : (z y : ℤ) → whole z ≡ Ok y → (z ≡ y) × (unsigned_abs y ≤ most)
 unfolding whole
-whole-ok z y e = grind (arith, nat_tests)
+whole_ok z y e = grind (arith, nat_tests)
 
 not_negative : (a b : ℤ) → pos 0 ≤ℤ a → pos 0 ≤ℤ int_rem a b
 not_negative (pos n) b h = omega (arith, ints)
@@ -31,9 +31,9 @@ not_positive (pos n) b h = let e : n ≡ 0 = omega (arith, ints) in omega (arith
 not_positive (negsuc n) b h = omega (arith, ints)
 
 -- a division that has a result has a divisor that is not 0, and its result
-pub over-ok : (b y : ℤ) (r : Result ℤ NumFault) → over b r ≡ Ok y → (0 < unsigned_abs b) × (r ≡ Ok y)
+pub over_ok : (b y : ℤ) (r : Result ℤ NumFault) → over b r ≡ Ok y → (0 < unsigned_abs b) × (r ≡ Ok y)
 unfolding over
-over-ok b y r e = grind (arith, nat_tests)
+over_ok b y r e = grind (arith, nat_tests)
 
 divides_at : (a b : ℤ) → 0 < unsigned_abs b → IsDivision a b (int_div a b) (int_rem a b)
 divides_at a b h = record {
@@ -46,10 +46,10 @@ divides_at a b h = record {
 pub divides : (a b q r : ℤ) → calculated TruncatedQuotient a b ≡ Ok q → calculated Remainder a b ≡ Ok r → IsDivision a b q r
 unfolding calculated
 divides a b q r e f =
-    let d = over-ok b q (whole (int_div a b)) e in
-    let g = over-ok b r (whole (int_rem a b)) f in
-    let x : int_div a b ≡ q = (whole-ok (int_div a b) q d.1).0 in
-    let y : int_rem a b ≡ r = (whole-ok (int_rem a b) r g.1).0 in
+    let d = over_ok b q (whole (int_div a b)) e in
+    let g = over_ok b r (whole (int_rem a b)) f in
+    let x : int_div a b ≡ q = (whole_ok (int_div a b) q d.1).0 in
+    let y : int_rem a b ≡ r = (whole_ok (int_rem a b) r g.1).0 in
     rw (← x, ← y) (divides_at a b d.0)
 
 -- the parts of an exact quotient's test
@@ -62,22 +62,22 @@ nothing_left a b h = omega (arith, ints, quot-rem a b)
 pub divides_exactly : (a b q : ℤ) → calculated WholeQuotient a b ≡ Ok q → q *ℤ b ≡ a
 unfolding calculated
 divides_exactly a b q e =
-    let d = over-ok b q _ e in
+    let d = over_ok b q _ e in
     let g = divided (unsigned_abs (int_rem a b)) (whole (int_div a b)) q d.1 in
-    let x : int_div a b ≡ q = (whole-ok (int_div a b) q g.1).0 in
+    let x : int_div a b ≡ q = (whole_ok (int_div a b) q g.1).0 in
     rw (← x) (nothing_left a b g.0)
 
 -- what a calculation gives is a whole number
-pub calculated-fits : (calculation : Calculation) (a b z : ℤ) → calculated calculation a b ≡ Ok z → unsigned_abs z ≤ most
+pub calculated_fits : (calculation : Calculation) (a b z : ℤ) → calculated calculation a b ≡ Ok z → unsigned_abs z ≤ most
 unfolding calculated
-calculated-fits Sum a b z e = (whole-ok (a +ℤ b) z e).1
-calculated-fits Difference a b z e = (whole-ok (a -ℤ b) z e).1
-calculated-fits Product a b z e = (whole-ok (a *ℤ b) z e).1
-calculated-fits WholeQuotient a b z e =
-    let d = over-ok b z _ e in
-    (whole-ok (int_div a b) z (divided (unsigned_abs (int_rem a b)) (whole (int_div a b)) z d.1).1).1
-calculated-fits TruncatedQuotient a b z e = (whole-ok (int_div a b) z (over-ok b z (whole (int_div a b)) e).1).1
-calculated-fits Remainder a b z e = (whole-ok (int_rem a b) z (over-ok b z (whole (int_rem a b)) e).1).1
+calculated_fits Sum a b z e = (whole_ok (a +ℤ b) z e).1
+calculated_fits Difference a b z e = (whole_ok (a -ℤ b) z e).1
+calculated_fits Product a b z e = (whole_ok (a *ℤ b) z e).1
+calculated_fits WholeQuotient a b z e =
+    let d = over_ok b z _ e in
+    (whole_ok (int_div a b) z (divided (unsigned_abs (int_rem a b)) (whole (int_div a b)) z d.1).1).1
+calculated_fits TruncatedQuotient a b z e = (whole_ok (int_div a b) z (over_ok b z (whole (int_div a b)) e).1).1
+calculated_fits Remainder a b z e = (whole_ok (int_rem a b) z (over_ok b z (whole (int_rem a b)) e).1).1
 
-pub negation_of-fits : (a : ℤ) → unsigned_abs a ≤ most → unsigned_abs (negation_of a) ≤ most
-negation_of-fits a h = omega (arith, ints)
+pub negation_of_fits : (a : ℤ) → unsigned_abs a ≤ most → unsigned_abs (negation_of a) ≤ most
+negation_of_fits a h = omega (arith, ints)

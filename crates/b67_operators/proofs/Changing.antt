@@ -6,6 +6,7 @@ use Rattle.std.proofs.lemmas.Bool.{le-leb}
 use Rattle.std.proofs.lemmas.Option.{slice_get-get_or}
 use Rattle.b67_list.specs.Numbered.{numbered, set_numbered}
 use Rattle.b67_word.specs.Word.{Word, operand}
+use Rattle.b67_word.proofs.Cited.{one_longer}
 use Rattle.b67_control.specs.declared.Registers.{Registers}
 use Rattle.b67_control.specs.declared.Pcw.{Pcw}
 use Rattle.b67_store.specs.declared.NoSuchPlace.{NoSuchPlace}
@@ -40,10 +41,6 @@ take_within : (k : ℕ) (ws : List Word) → length (take k ws) ≤ k
 take_within zero ws = omega arith
 take_within (suc k) [] = omega arith
 take_within (suc k) (w ∷ ws) = omega (arith, take_within k ws)
-
-one_longer : (ws : List Word) (w : Word) → length (ws ++ w ∷ []) ≡ length ws + 1
-one_longer [] w = refl
-one_longer (v ∷ ws) w = omega (arith, one_longer ws w)
 
 -- what a call that answers Ok left
 pub when_ok : {A E S : Type 0} (r : Result A E) (u : A) (new a b : S) → r ≡ Ok u → new ≡ cond (is_ok r) a b → new ≡ a

@@ -1,6 +1,6 @@
 -- What leaving a frame makes of an image.
 use Rattle.std.specs.Result.{IsErrAnd}
-use Rattle.std.specs.Prelude.{◌||◌, nat_le, nat_eq, ◌&&◌, not}
+use Rattle.std.specs.Prelude.{nat_le, nat_eq, ◌&&◌, not}
 use Rattle.std.proofs.Common.{◌≡◌, refl, sym, ap, subst, ◌∙◌, ℕ, zero, suc, ◌-◌, ◌≤◌, Bool, true, false, cond, List, [], ◌∷◌, set, get_or, slice_get, Option, Some, None, Result, Ok, Err, arith}
 use Rattle.std.proofs.lemmas.Option.{get_or_from_slice_get}
 use Rattle.std.proofs.lemmas.Bool.Decides.{nat_tests}
@@ -112,15 +112,8 @@ module _ (img : Image) (r : Registers) (next : ℕ) (words : List Word) where
   abbrev cells : List Word
   cells = own_cells (held img.stacks img.rows r)
 
-  pub is_base : nat_eq (frame r) 0 ≡ true → asked img (leave r next words) ≡ asked img (leave_base r cells next)
-  is_base e = ap (λ (b : Bool). asked img (cond b (leave_base r cells next) (leave_other r cells (frame r) words))) e
-
   pub is_other : nat_eq (frame r) 0 ≡ false → asked img (leave r next words) ≡ asked img (leave_other r cells (frame r) words)
   is_other e = ap (λ (b : Bool). asked img (cond b (leave_base r cells next) (leave_other r cells (frame r) words))) e
-
-pub only_one : (b : Bool) → (b || false) ≡ b
-only_one true = refl
-only_one false = refl
 
 -- what is told by slices of the states and the registers
 critical_in : (n : ℕ) (fs : List ℕ) {states more : List ProcessState} {regs all : List Registers} → states ≡ more → regs ≡ all
@@ -291,12 +284,6 @@ module _ (p : ℕ) (img : Image) (r : Registers) (next : ℕ) where
       by (Some task) = refl
 
   module _ (has : numbered img.regs p ≡ Some r) where
-    pub base_stops : {A : Type 0} → true ≡ base_critical → ProgramActs {A = A} p (program_in (program_ends img.stacks img.rows) (numbered img.regs p) next) img img (Err (Fault CriticalBlockExit))
-    base_stops e =
-        in_process p (program_ends img.stacks img.rows) (numbered img.regs p) r next img img (Err (Fault CriticalBlockExit)) has
-        (acts_refused p (program_ends img.stacks img.rows r next) img (Fault CriticalBlockExit)
-        (ap (λ (b : Bool). whole_outcome (asked img (cond b (fault CriticalBlockExit) (answer ending)))) (sym e)))
-
     pub base_goes : (sliced : List ProcessState) (slice : List Registers) (stacks : Stacks) (rows : Rows) (regs : List Registers) (room : ℕ) (kernel : Events)
         (states : List ProcessState) (numbers : List ℕ)
         → sliced ≡ img.states → slice ≡ img.regs → false ≡ is_critical r.stack (0 ∷ []) (live_criticals sliced slice) → IsLinked img.stacks img.rows r
@@ -327,13 +314,6 @@ module _ (p : ℕ) (img : Image) (r : Registers) (next : ℕ) where
 -- ---- the operators
 
 module _ {A : Type 0} (p : ℕ) (img new : Image) (r : Registers) (has : numbered img.regs p ≡ Some r) (next : ℕ) (res : Result A Stop) where
-  pub exit_ends : nat_eq (frame r) 0 ≡ true → ProgramActs p (program_in (program_ends img.stacks img.rows) (numbered img.regs p) next) img new res
-      → ProgramActs p (program_in exit (numbered img.regs p) next) img new res
-  exit_ends e x =
-      in_process p exit (numbered img.regs p) r next img new res has
-      (acts_as p (exit r next) (program_ends img.stacks img.rows r next) img new res (is_base img r next [] e)
-      (subst (λ (o : Option Registers). ProgramActs p (program_in (program_ends img.stacks img.rows) o next) img new res) has x))
-
   pub exit_leaves : nat_eq (frame r) 0 ≡ false → ProgramActs p (program_in (leaves img.stacks img.rows None) (numbered img.regs p) next) img new res
       → ProgramActs p (program_in exit (numbered img.regs p) next) img new res
   exit_leaves e x =

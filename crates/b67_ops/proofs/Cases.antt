@@ -11,7 +11,7 @@ use Rattle.b67_ops.specs.declared.table.OperatorKind.{OperatorKind}
 use Rattle.b67_ops.specs.declared.table.OperatorKind.TheVariants as kinds
 use Rattle.b67_ops.specs.Codes.{code_of, kind_with}
 use Rattle.b67_ops.specs.Decoding.{◌>>=◌, byte_front, place_front, word_front, couple_front, code_in, known_front}
-use Rattle.b67_ops.proofs.CodeLemmas.{code_of-with, code_of-valc, code_of-namc, code_of-branch, code_of-plain, code_of-literal, first-is, first-valc, first-namc}
+use Rattle.b67_ops.proofs.CodeLemmas.{code_of_with, code_of_valc, code_of_namc, code_of_branch, code_of_plain, code_of_literal, first_is, first_valc, first_namc}
 
 -- what is read after a first syllable: the operand and how many syllables the operator takes
 abbrev pub Reader : Type 0
@@ -45,18 +45,18 @@ pub data Case (count level first : ℕ) : Reader → Type 0 where
   other : Case count level first (λ rest. Err Unknown)
 
 kind_case : (count level first : ℕ) (kind : OperatorKind) → code_of kind ≡ code_in first → Case count level first (λ rest. known_front (Some kind) count level first rest)
-kind_case count level first kinds.Valc is = valc (first-valc first (sym code_of-valc ∙ is))
-kind_case count level first kinds.Namc is = let within = first-namc first (sym code_of-namc ∙ is) in namc within.0 within.1
-kind_case count level first kinds.Lt8 is = lt8 (first-is first (code_of kinds.Lt8) code_of-literal.0 is)
-kind_case count level first kinds.Lt16 is = lt16 (first-is first (code_of kinds.Lt16) code_of-literal.1 is)
-kind_case count level first kinds.Lt48 is = lt48 (first-is first (code_of kinds.Lt48) code_of-literal.2 is)
-kind_case count level first kinds.Mpcw is = mpcw (first-is first (code_of kinds.Mpcw) code_of-literal.3 is)
-kind_case count level first (kinds.Branch kind) is = branch kind (first-is first (code_of (kinds.Branch kind)) (code_of-branch kind) is)
-kind_case count level first (kinds.Plain kind) is = plain kind (first-is first (code_of (kinds.Plain kind)) (code_of-plain kind) is)
+kind_case count level first kinds.Valc is = valc (first_valc first (sym code_of_valc ∙ is))
+kind_case count level first kinds.Namc is = let within = first_namc first (sym code_of_namc ∙ is) in namc within.0 within.1
+kind_case count level first kinds.Lt8 is = lt8 (first_is first (code_of kinds.Lt8) code_of_literal.0 is)
+kind_case count level first kinds.Lt16 is = lt16 (first_is first (code_of kinds.Lt16) code_of_literal.1 is)
+kind_case count level first kinds.Lt48 is = lt48 (first_is first (code_of kinds.Lt48) code_of_literal.2 is)
+kind_case count level first kinds.Mpcw is = mpcw (first_is first (code_of kinds.Mpcw) code_of_literal.3 is)
+kind_case count level first (kinds.Branch kind) is = branch kind (first_is first (code_of (kinds.Branch kind)) (code_of_branch kind) is)
+kind_case count level first (kinds.Plain kind) is = plain kind (first_is first (code_of (kinds.Plain kind)) (code_of_plain kind) is)
 
 known_case : (count level first : ℕ) (kind : Option OperatorKind) → kind_with (code_in first) ≡ kind → Case count level first (λ rest. known_front kind count level first rest)
 known_case count level first None h = other
-known_case count level first (Some kind) h = kind_case count level first kind (code_of-with (code_in first) kind h)
+known_case count level first (Some kind) h = kind_case count level first kind (code_of_with (code_in first) kind h)
 
 pub case_of : (count level first : ℕ) → Case count level first (λ rest. known_front (kind_with (code_in first)) count level first rest)
 case_of count level first = known_case count level first (kind_with (code_in first)) refl

@@ -9,3 +9,4 @@ pub mod Spelled
 pub mod Refusing
 pub mod Laws
 pub mod Windows
+pub mod Cited

@@ -18,21 +18,21 @@ abbrev first_named : List ℕ → List (CodeRow (record { now : List ℕ })) →
 first_named name [] = None
 first_named name (row ∷ more) = cond (same_text row.2.now name) (Some row.0) (first_named name more)
 
-named-name : (kind : OperatorKind) → first_named (name_of kind) TABLE ≡ Some kind
+named_name : (kind : OperatorKind) → first_named (name_of kind) TABLE ≡ Some kind
 unfolding name_of
-named-name Valc = refl
-named-name Namc = refl
-named-name Lt8 = refl
-named-name Lt16 = refl
-named-name Lt48 = refl
-named-name Mpcw = refl
-named-name (Branch branches.Brfl) = refl
-named-name (Branch kind) = refl
-named-name (Plain plains.Add) = refl
-named-name (Plain kind) = refl
+named_name Valc = refl
+named_name Namc = refl
+named_name Lt8 = refl
+named_name Lt16 = refl
+named_name Lt48 = refl
+named_name Mpcw = refl
+named_name (Branch branches.Brfl) = refl
+named_name (Branch kind) = refl
+named_name (Plain plains.Add) = refl
+named_name (Plain kind) = refl
 
 -- no two operators have one name
-pub name_of-one : (a b : OperatorKind) → name_of a ≡ name_of b → a ≡ b
-name_of-one a b h =
-    let same : Some a ≡ Some b = sym (named-name a) ∙ ap (λ name. first_named name TABLE) h ∙ named-name b in
+pub name_of_one : (a b : OperatorKind) → name_of a ≡ name_of b → a ≡ b
+name_of_one a b h =
+    let same : Some a ≡ Some b = sym (named_name a) ∙ ap (λ name. first_named name TABLE) h ∙ named_name b in
     cc

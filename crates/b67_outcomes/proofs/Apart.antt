@@ -4,19 +4,13 @@ use Rattle.std.specs.Prelude.{◌⊎◌, slice_get}
 use Rattle.std.proofs.lemmas.Bool.{cases_lt}
 use Rattle.std.proofs.lemmas.Option.{slice_get_within}
 use Rattle.b67_segment.specs.declared.code.Code.{Code}
+use Rattle.b67_list.proofs.Lists.{same_head, slice_either}
 use Rattle.b67_outcomes.specs.declared.found.Step.{Step}
 use Rattle.b67_outcomes.specs.declared.found.State.{State}
 use Rattle.b67_outcomes.specs.Finding.{History, first, later, AreLed, AreOnce, AreGrowing, AreBelow, before_of, AreChained}
-use Rattle.b67_outcomes.proofs.Histories.{step_less, joined}
+use Rattle.b67_outcomes.proofs.Histories.{step_less}
 
 -- ---- lists
-
-pub same_head : (p q : ℕ) (g h : List ℕ) → p ∷ g ≡ q ∷ h → p ≡ q
-same_head p q g h e = ap (λ (z : List ℕ). head_or z) e
-  where
-    head_or : List ℕ → ℕ
-    head_or [] = p
-    head_or (x ∷ xs) = x
 
 pub same_tail : (p q : ℕ) (g h : List ℕ) → p ∷ g ≡ q ∷ h → g ≡ h
 same_tail p q g h e = ap (λ (z : List ℕ). tail_of z) e
@@ -72,7 +66,7 @@ state_one states growing j k s t at there e = by (cases_lt j k) (cases_lt k j)
 module _ (xs more : List Step) (number : ℕ) (chained : AreChained number (length xs) more) (within : number ≤ length xs) where
   -- after other histories there are no more steps
   pub others_stay : (n p : ℕ) → n ≤ length xs → (n ≡ number → ⊥) → AreBelow xs n p → AreBelow (xs ++ more) n p
-  others_stay n p old other below k s there e = by (joined xs more k s there)
+  others_stay n p old other below k s there e = by (slice_either xs more k s there)
     where
       place : (j : ℕ) → s.before ≡ before_of number (length xs) j → s.process < p
       place zero is = absurd (other (sym e ∙ is))
@@ -84,7 +78,7 @@ module _ (xs more : List Step) (number : ℕ) (chained : AreChained number (leng
 
   -- after this one there is the first of the path
   pub own_next : (p : ℕ) → ((s : Step) → slice_get more 0 ≡ Some s → s.process ≤ p) → AreBelow xs number p → AreBelow (xs ++ more) number (p + 1)
-  own_next p least below k s there e = by (joined xs more k s there)
+  own_next p least below k s there e = by (slice_either xs more k s there)
     where
       place : (j : ℕ) → slice_get more j ≡ Some s → s.before ≡ before_of number (length xs) j → s.process < p + 1
       place zero at is = let few = least s at in omega (arith, few)
@@ -96,7 +90,7 @@ module _ (xs more : List Step) (number : ℕ) (chained : AreChained number (leng
 
   -- and none of them was there before
   pub once_more : AreEarlier xs → AreOnce xs → ((s : Step) → slice_get more 0 ≡ Some s → AreBelow xs number s.process) → AreOnce (xs ++ more)
-  once_more earlier once fresh j k s at there = by (joined xs more j s at) (joined xs more k s there)
+  once_more earlier once fresh j k s at there = by (slice_either xs more j s at) (slice_either xs more k s there)
     where
       apart : (i l : ℕ) (A : Type 0) → slice_get xs i ≡ Some s → slice_get more l ≡ Some s → s.before ≡ before_of number (length xs) l → A
       apart i zero A was new is = let less = fresh s new i s was is in absurd (omega (arith, less))

@@ -4,13 +4,14 @@ use Rattle.std.specs.Prelude.{◌⊎◌, slice_get, IfOk}
 use Rattle.std.specs.List.{All}
 use Rattle.std.proofs.Math.Seq.{take-suc}
 use Rattle.std.proofs.lemmas.List.{drop_all, length_push, length-append, map-append, reverse-append, take-append-drop}
-use Rattle.std.proofs.lemmas.List.Elements.{All-cons}
 use Rattle.std.proofs.lemmas.Option.{slice_get_within, same_Some, none-some}
 use Rattle.b67_segment.specs.declared.code.Code.{Code}
 use Rattle.b67_table.specs.Image.{Image}
 use Rattle.b67_table.specs.Beginning.{first_image}
 use Rattle.b67_table.specs.Ending.{may_act}
 use Rattle.b67_table.specs.Runs.{RunEntry, Runs, begin, entry}
+use Rattle.b67_table.proofs.Begun.{last_is}
+use Rattle.b67_list.proofs.Lists.{get_front, slice_either}
 use Rattle.b67_outcomes.specs.declared.found.Step.{Step}
 use Rattle.b67_outcomes.specs.Entering.{ProcessEnters, IsProcessNumber, HistoryLeadsTo, HistoryLeads}
 use Rattle.b67_outcomes.specs.Finding.{History, first, later, IsLed, NumberIsAt, IsAfter, AreLed, before_of, HoldsPath}
@@ -18,31 +19,11 @@ use Rattle.b67_outcomes.proofs.Determined.{entry_one, no_entry, led_one}
 
 -- ---- lists
 
-pub stays : {X : Type 0} (xs more : List X) (k : ℕ) (x : X) → slice_get xs k ≡ Some x → slice_get (xs ++ more) k ≡ Some x
-stays [] more k x e = absurd (none-some x e)
-stays (y ∷ xs) more zero x e = e
-stays (y ∷ xs) more (suc k) x e = stays xs more k x e
-
-pub last_is : {X : Type 0} (xs : List X) (x : X) → slice_get (xs ++ x ∷ []) (length xs) ≡ Some x
-last_is [] x = refl
-last_is (y ∷ xs) x = last_is xs x
-
-pub joined : {X : Type 0} (xs more : List X) (k : ℕ) (x : X) → slice_get (xs ++ more) k ≡ Some x
-    → (slice_get xs k ≡ Some x) ⊎ ((j : ℕ) × (k ≡ length xs + j) × (slice_get more j ≡ Some x))
-joined [] more k x e = inr (k, omega arith, e)
-joined (y ∷ xs) more zero x e = inl e
-joined (y ∷ xs) more (suc k) x e = by (joined xs more k x e)
-  where
-    by : (slice_get xs k ≡ Some x) ⊎ ((j : ℕ) × (k ≡ length xs + j) × (slice_get more j ≡ Some x))
-        → (slice_get (y ∷ xs) (suc k) ≡ Some x) ⊎ ((j : ℕ) × (suc k ≡ length (y ∷ xs) + j) × (slice_get more j ≡ Some x))
-    by (inl old) = inl old
-    by (inr new) = let at = new.1 in inr (new.0, omega (arith, at), new.2)
-
 -- ---- histories
 
 pub history_stays : (xs more : List Step) (k : ℕ) (h : List ℕ) → History xs k h → History (xs ++ more) k h
 history_stays xs more k h first = first
-history_stays xs more k h (later {n = n} {step = s} {h = r} there before rest) = later (stays xs more n s there) before (history_stays xs more s.before r rest)
+history_stays xs more k h (later {n = n} {step = s} {h = r} there before rest) = later (get_front xs more n s there) before (history_stays xs more s.before r rest)
 
 pub history_within : (steps : List Step) (k : ℕ) (h : List ℕ) → History steps k h → k ≤ length steps
 history_within steps k h first = omega arith
@@ -118,18 +99,8 @@ history_short steps k h (later {step = s} {h = r} there before rest) = let short
 
 -- ---- the numbers of processes
 
-pub drop_next : (h : List ℕ) (i p : ℕ) → slice_get h i ≡ Some p → drop i h ≡ p ∷ drop (suc i) h
-drop_next [] i p e = absurd (none-some p e)
-drop_next (q ∷ h) zero p e = ap (λ (z : ℕ). z ∷ h) (same_Some q p e)
-drop_next (q ∷ h) (suc i) p e = drop_next h i p e
-
 pub numbers_begun : (h : List ℕ) → All IsProcessNumber (drop (length h) h)
 numbers_begun h = subst (λ (z : List ℕ). All IsProcessNumber z) (sym (drop_all (length h) h (omega arith))) (λ k d below. absurd (omega (arith, below)))
-
-pub numbers_next : (h : List ℕ) (i left p : ℕ) → suc i ≡ left → slice_get h i ≡ Some p → IsProcessNumber p → All IsProcessNumber (drop left h) → All IsProcessNumber (drop i h)
-numbers_next h i left p on there number all =
-    subst (λ (z : List ℕ). All IsProcessNumber z) (sym (drop_next h i p there))
-    (All-cons IsProcessNumber p (drop (suc i) h) number (subst (λ (k : ℕ). All IsProcessNumber (drop k h)) (sym on) all))
 
 -- ---- runs of histories
 
@@ -148,38 +119,6 @@ led_begun code h img e =
 pub led_leads : (code : Code) (steps : List Step) (k : ℕ) (h : List ℕ) → IsLed code steps k → History steps k h → HistoryLeads code h
 led_leads code steps k h led is = (led.image, subst (λ (z : List ℕ). HistoryLeadsTo code z led.image) (history_one steps k led.history h led.is is) led.leads)
 
--- the entry at a place of a history
-pub record EntryAt (code : Code) (h : List ℕ) (i p : ℕ) : Type 0 where
-  pub from : Image
-  pub to : Image
-  pub count : ℕ
-  pub before : HistoryLeadsTo code (drop (suc i) h) from
-  pub is : RunEntry code p from count to
-  pub after : HistoryLeadsTo code (drop i h) to
-
-pub entry_at : (code : Code) (h counts : List ℕ) (i p : ℕ) (img : Image) → slice_get h i ≡ Some p → Runs code h counts img → EntryAt code h i p
-entry_at code [] counts i p img there r = absurd (none-some p there)
-entry_at code (q ∷ h) counts zero p img there (entry {counts = c} {a = a} {n = n} r e) =
-    record {
-      from = a;
-      to = img;
-      count = n;
-      before = (c, r);
-      is = subst (λ (z : ℕ). RunEntry code z a n img) (same_Some q p there) e;
-      after = ((n + 1) ∷ c, entry r e);
-    }
-entry_at code (q ∷ h) counts (suc i) p img there (entry {counts = c} {a = a} r e) =
-    let x = entry_at code h c i p a there r in
-    record { from = x.from; to = x.to; count = x.count; before = x.before; is = x.is; after = x.after }
-
--- the machine that stands after the entries before it may perform it
-pub next_may : (code : Code) (h : List ℕ) (i left p : ℕ) (a : Image) → suc i ≡ left → HistoryLeads code h → slice_get h i ≡ Some p → HistoryLeadsTo code (drop left h) a
-    → may_act a p ≡ true
-next_may code h i left p a on l there at =
-    let x = entry_at code h l.1.0 i p l.0 there l.1.1 in
-    let here = subst (λ (k : ℕ). HistoryLeadsTo code (drop k h) a) (sym on) at in
-    subst (λ (z : Image). may_act z p ≡ true) (led_one code (drop (suc i) h) x.from a x.before here) x.is.may
-
 entered : (code : Code) (p : ℕ) (a b : Image) (r : Bool) (n : ℕ) (c : Image) → ProcessEnters code p a r b → RunEntry code p a n c → c ≡ b
 entered code p a b true n c x e = entry_one code p a c b n x.0 e x.1
 entered code p a b false n c s e = no_entry code p a b c n _ s e
@@ -188,16 +127,6 @@ entered code p a b false n c s e = no_entry code p a b c n _ s e
 is_entered : (code : Code) (p : ℕ) (a b : Image) (r : Bool) (n : ℕ) (c : Image) → ProcessEnters code p a r b → RunEntry code p a n c → r ≡ true
 is_entered code p a b true n c x e = refl
 is_entered code p a b false n c s e = no_entry code p a b c n _ s e
-
--- and stands after it then
-pub next_led : (code : Code) (h : List ℕ) (i left p : ℕ) (a b : Image) (r : Bool) → suc i ≡ left → HistoryLeads code h → slice_get h i ≡ Some p
-    → HistoryLeadsTo code (drop left h) a → ProcessEnters code p a r b → HistoryLeadsTo code (drop i h) b
-next_led code h i left p a b r on l there at e =
-    let x = entry_at code h l.1.0 i p l.0 there l.1.1 in
-    let here = subst (λ (k : ℕ). HistoryLeadsTo code (drop k h) a) (sym on) at in
-    let same = led_one code (drop (suc i) h) x.from a x.before here in
-    subst (λ (z : Image). HistoryLeadsTo code (drop i h) z)
-    (entered code p a b r x.count x.to e (subst (λ (z : Image). RunEntry code p z x.count x.to) same x.is)) x.after
 
 -- ---- paths
 
@@ -347,7 +276,7 @@ held_next old steps longer number at path s x before same =
       more = x.more ++ s ∷ [];
       steps = ap (λ (z : List Step). z ++ s ∷ []) x.steps ∙ append_assoc old x.more (s ∷ []);
       entries = map-append (λ (z : Step). z.process) x.more (s ∷ []) ∙ ap (λ (z : List ℕ). z ++ s.process ∷ []) x.entries;
-      chained = λ k t e. chain k t (joined x.more (s ∷ []) k t e);
+      chained = λ k t e. chain k t (slice_either x.more (s ∷ []) k t e);
       at_is = at_end;
       is = λ h is.
           subst (λ (z : List ℕ). History (steps ++ s ∷ []) (suc (length steps)) z) (sym (path_end path s.process h))

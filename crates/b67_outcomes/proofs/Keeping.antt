@@ -7,6 +7,8 @@ use Rattle.b67_segment.specs.declared.code.Code.{Code}
 use Rattle.b67_table.specs.Image.{Image}
 use Rattle.b67_table.specs.Ending.{may_act}
 use Rattle.b67_table.specs.Runs.{RunEntry}
+use Rattle.b67_table.proofs.Begun.{last_is}
+use Rattle.b67_list.proofs.Lists.{get_front}
 use Rattle.b67_outcomes.specs.declared.found.TheConstants.{MOST_STEPS}
 use Rattle.b67_outcomes.specs.declared.follow.TheConstants.{FREE_STEPS, STEPS_OF_STATE, MOST_SETTLED}
 use Rattle.b67_outcomes.specs.declared.found.Step.{Step}
@@ -16,7 +18,7 @@ use Rattle.b67_outcomes.specs.declared.found.Found.{Found}
 use Rattle.b67_outcomes.specs.Entering.{ProcessEnters, Stops, HistoryLeadsTo}
 use Rattle.b67_outcomes.specs.Finding.{History, NumberIsAt, IsAfter, IsState, AreLed, AreStates, before_of, IsKept, IsStop, IsNoted, steps_for, IsSearched, HoldsState, FoundGrows, IsArrived, IsFollowed, IsExpanded}
 use Rattle.b67_outcomes.proofs.Determined.{entry_one, no_entry, led_one}
-use Rattle.b67_outcomes.proofs.Histories.{history_within, history_stays, stays, last_is}
+use Rattle.b67_outcomes.proofs.Histories.{history_within, history_stays}
 
 -- ---- lists
 
@@ -62,14 +64,14 @@ kept_stays code old new img g k =
     record {
       number = k.number;
       history = k.history;
-      state = (k.state.0, k.state.1, ap (λ (z : List State). slice_get z k.state.0) g.states ∙ stays old.states.items g.more_states k.state.0 k.state.1 k.state.2, k.state.3);
+      state = (k.state.0, k.state.1, ap (λ (z : List State). slice_get z k.state.0) g.states ∙ get_front old.states.items g.more_states k.state.0 k.state.1 k.state.2, k.state.3);
       is = grown_history old new k.number k.history g k.is;
       leads = k.leads;
     }
 
 noted_stays : (old new : Found) (number p : ℕ) → FoundGrows old new → IsNoted old.limits.items number p → IsNoted new.limits.items number p
 noted_stays old new number p g x =
-    (x.0, x.1, ap (λ (z : List Limit). slice_get z x.0) g.limits ∙ stays old.limits.items g.more_limits x.0 x.1 x.2, x.3, x.4)
+    (x.0, x.1, ap (λ (z : List Limit). slice_get z x.0) g.limits ∙ get_front old.limits.items g.more_limits x.0 x.1 x.2, x.3, x.4)
 
 module _ (code : Code) (Local : Image → ℕ → Type 0) where
   pub arrived_stays : (old new : Found) (img : Image) → FoundGrows old new → IsArrived code Local old img → IsArrived code Local new img
@@ -166,12 +168,6 @@ same_searched code most old new s steps states limits cause =
       most_few = s.most_few;
       cause = λ e. subst (λ (z : List State). length z ≡ most) (sym states) (cause e);
     }
-
--- a search that has come to the most states is cut
-pub cut_searched : (code : Code) (most : ℕ) (old new : Found) → IsSearched code most old → new.steps.items ≡ old.steps.items
-    → new.states.items ≡ old.states.items → new.limits.items ≡ old.limits.items → most ≤ length old.states.items → IsSearched code most new
-cut_searched code most old new s steps states limits full =
-    same_searched code most old new s steps states limits (λ e. let few = s.few in omega (arith, few, full))
 
 -- ---- a limit is noted
 
@@ -299,7 +295,7 @@ held_searched code most old new number path at there s x after room fits =
           };
       after = λ k y e.
           let was = s.after k y (sym (ap (λ (z : List Limit). slice_get z k) x.limits) ∙ e) in
-          (was.0, was.1, ap (λ (z : List State). slice_get z was.0) x.states ∙ stays old.states.items (x.state ∷ []) was.0 was.1 was.2, was.3);
+          (was.0, was.1, ap (λ (z : List State). slice_get z was.0) x.states ∙ get_front old.states.items (x.state ∷ []) was.0 was.1 was.2, was.3);
       short = subst (λ (n : ℕ). length new.steps.items ≤ steps_for n) (sym one_more) (omega (arith, fits, held_length old number path at new x));
       few = omega (arith, room, one_more);
       most_few = s.most_few;

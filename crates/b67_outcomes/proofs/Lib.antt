@@ -7,5 +7,5 @@ mod Only
 pub mod Keeping
 mod Closing
 pub mod Apart
-mod Trees
+pub mod Trees
 pub mod Kept

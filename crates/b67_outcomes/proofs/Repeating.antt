@@ -9,9 +9,10 @@ use Rattle.b67_segment.specs.declared.code.Code.{Code}
 use Rattle.b67_table.specs.Image.{Image}
 use Rattle.b67_table.specs.Ending.{may_act}
 use Rattle.b67_table.specs.Runs.{Runs, RunEntry, entry}
+use Rattle.b67_list.proofs.Lists.{drop_next}
 use Rattle.b67_outcomes.specs.Entering.{IsProcessNumber, HistoryLeads, HistoryLeadsTo, Repeats, none, again}
 use Rattle.b67_outcomes.proofs.Determined.{entry_one, led_one}
-use Rattle.b67_outcomes.proofs.Histories.{drop_next, led_more, rest_leads}
+use Rattle.b67_outcomes.proofs.Histories.{led_more, rest_leads}
 
 module _ (code : Code) (p : ℕ) where
   -- they lead to one image only

@@ -8,13 +8,14 @@ use Rattle.b67_segment.specs.declared.code.Code.{Code}
 use Rattle.b67_table.specs.Image.{Image}
 use Rattle.b67_table.specs.Beginning.{first_image}
 use Rattle.b67_table.specs.Runs.{RunEntry}
+use Rattle.b67_list.proofs.Lists.{get_front, slice_either}
 use Rattle.b67_outcomes.specs.declared.found.Step.{Step}
 use Rattle.b67_outcomes.specs.declared.found.State.{State}
 use Rattle.b67_outcomes.specs.declared.found.Found.{Found}
 use Rattle.b67_outcomes.specs.Entering.{HistoryLeadsTo}
 use Rattle.b67_outcomes.specs.Finding.{History, NumberIsAt, IsState, AreOnce, AreGrowing, AreBelow, before_of, IsKept, IsSearched, FoundGrows}
 use Rattle.b67_outcomes.specs.Kept.{IsSame, AreOpen, IsReady, AreNotExpanded, IsBegun, GoesOn, IsHeld, IsStateNext, IsTree}
-use Rattle.b67_outcomes.proofs.Histories.{history_one, history_stays, history_within, joined, no_steps, stays, led_more}
+use Rattle.b67_outcomes.proofs.Histories.{history_one, history_stays, history_within, no_steps, led_more}
 use Rattle.b67_outcomes.proofs.Apart.{led_earlier, none_after, below_more, others_stay, own_next, once_more}
 
 -- ---- lists
@@ -25,7 +26,7 @@ only_one x y (suc k) e = absurd (none-some y e)
 
 -- the last of a list, or one of the others
 pub last_or_old : {X : Type 0} (xs : List X) (x y : X) (k : ℕ) → slice_get (xs ++ x ∷ []) k ≡ Some y → (slice_get xs k ≡ Some y) ⊎ ((k ≡ length xs) × (x ≡ y))
-last_or_old xs x y k e = by (joined xs (x ∷ []) k y e)
+last_or_old xs x y k e = by (slice_either xs (x ∷ []) k y e)
   where
     by : (slice_get xs k ≡ Some y) ⊎ ((j : ℕ) × (k ≡ length xs + j) × (slice_get (x ∷ []) j ≡ Some y)) → (slice_get xs k ≡ Some y) ⊎ ((k ≡ length xs) × (x ≡ y))
     by (inl old) = inl old
@@ -98,7 +99,7 @@ state_next_stays : (code : Code) (Local : Image → ℕ → Type 0) (xs more : L
     → IsStateNext code Local xs states k s → IsStateNext code Local (xs ++ more) (states ++ new) k s
 state_next_stays code Local xs more states new zero s x = (x.0, history_stays xs more s.number x.0 x.1, x.2)
 state_next_stays code Local xs more states new (suc k) s (j, t, g, h, order, there, before, is, goes) =
-    (j, t, g, h, order, stays states new j t there, history_stays xs more t.number g before, history_stays xs more s.number h is, goes)
+    (j, t, g, h, order, get_front states new j t there, history_stays xs more t.number g before, history_stays xs more s.number h is, goes)
 
 -- a later one goes on from one before it
 later_next : (code : Code) (Local : Image → ℕ → Type 0) (steps : List Step) (states : List State) (k j : ℕ) (s t : State) (g h : List ℕ) → j < k
@@ -211,7 +212,7 @@ module _ (code : Code) (Local : Image → ℕ → Type 0) (most number p : ℕ) 
           let sooner = slice_get_within old.states.items state.0 state.1 state.2 in
           later_next code Local new.steps.items new.states.items k state.0 s state.1 at.history (reverse ((p ∷ []) ++ x.settled) ++ at.history)
           (omega (arith, last_place, sooner))
-          (ap (λ (z : List State). slice_get z state.0) x.held.states ∙ stays old.states.items (x.held.state ∷ []) state.0 state.1 state.2)
+          (ap (λ (z : List State). slice_get z state.0) x.held.states ∙ get_front old.states.items (x.held.state ∷ []) state.0 state.1 state.2)
           (subst (λ (z : List Step). History z state.1.number at.history) (sym x.held.path_held.steps)
           (history_stays old.steps.items x.held.path_held.more state.1.number at.history from))
           (subst (λ (m : ℕ). History new.steps.items m (reverse ((p ∷ []) ++ x.settled) ++ at.history)) (sym x.held.number_is ∙ ap (λ (z : State). z.number) one.1)
@@ -317,7 +318,7 @@ ready_next code Local found done s tree not is = record { below = not done s (om
 pub expanded_open : (code : Code) (Local : Image → ℕ → Type 0) (old new : Found) (done : ℕ) (s : State) → FoundGrows old new → IsTree code Local new
     → AreOpen new s.number → slice_get old.states.items done ≡ Some s → AreNotExpanded new (done + 1)
 expanded_open code Local old new done s g tree opened is k t later there =
-    let stays_there = ap (λ (z : List State). slice_get z done) g.states ∙ stays old.states.items g.more_states done s is in
+    let stays_there = ap (λ (z : List State). slice_get z done) g.states ∙ get_front old.states.items g.more_states done s is in
     opened k t there (tree.growing done k s t (omega (arith, later)) stays_there there)
 
 pub some_stay : (old new : Found) → FoundGrows old new → 1 ≤ length old.states.items → 1 ≤ length new.states.items
@@ -327,7 +328,7 @@ some_stay old new g some =
 -- a state stays one
 pub state_stays : (old new : Found) (number : ℕ) → FoundGrows old new → IsState old.states.items number → IsState new.states.items number
 state_stays old new number g x =
-    (x.0, x.1, ap (λ (z : List State). slice_get z x.0) g.states ∙ stays old.states.items g.more_states x.0 x.1 x.2, x.3)
+    (x.0, x.1, ap (λ (z : List State). slice_get z x.0) g.states ∙ get_front old.states.items g.more_states x.0 x.1 x.2, x.3)
 
 -- where an image is kept, some state is
 pub kept_some : (code : Code) (steps : List Step) (states all : List State) (img : Image) → states ≡ all → IsKept code steps states img → 1 ≤ length all

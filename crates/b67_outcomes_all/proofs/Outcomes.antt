@@ -1,5 +1,5 @@
 -- From what is told of states to the outcomes of the source.
-use Rattle.std.proofs.Common.{◌≡◌, refl, sym, ap, ap₂, subst, ◌∙◌, ℕ, List, [], Option, Some, None, inl, inr}
+use Rattle.std.proofs.Common.{◌≡◌, refl, sym, ap, subst, ◌∙◌, ℕ, List, [], Option, Some, None, inl, inr}
 use Rattle.std.specs.Prelude.{◌⊎◌}
 use Rattle.std.proofs.lemmas.Option.{same_Some, none-some, slice_get_within}
 use Rattle.b67_list.specs.Numbered.{numbered}
@@ -13,7 +13,7 @@ use Rattle.b67_table.specs.Ending.{ImageEnd, image_end}
 use Rattle.b67_table.specs.Ending as machine
 use Rattle.b67_table.specs.Table.{length_in, stack_length}
 use Rattle.b67_table.specs.Runs.{Runs, TableRun}
-use Rattle.b67_report.specs.declared.EndWords.{EndWords}
+use Rattle.b67_table.proofs.Cited.{no_tails}
 use Rattle.b67_report.specs.declared.EndWords.TheVariants as ends
 use Rattle.b67_faithful.specs.Agreement.{end_as}
 use Rattle.b67_faithful.specs.Faithful.{Faithful, ComesToLimit}
@@ -25,11 +25,9 @@ use Rattle.b67_told.specs.declared.Told.{Told}
 use Rattle.b67_told.specs.Telling.{OutcomeIsTold, outcomes_in}
 use Rattle.b67_teller.specs.Following.{image_words, ended_outcome, stopped_outcome}
 use Rattle.b67_teller.specs.Books.{AreTold}
+use Rattle.b67_teller.proofs.Leading.{outcome_is}
 use Rattle.b67_outcomes_all.specs.Outcomes.{shown_end, SourceComesTo, ComesToStop, IsStopTold, ToldAreAll}
-use Rattle.b67_outcomes_all.proofs.Telling.{no_tails, may_there, told}
-
-same_outcome : (o : Outcome) (output : List (List ℕ)) (end : EndWords) → o.output ≡ output → o.end ≡ end → o ≡ record { output = output; end = end }
-same_outcome o output end e f = ap₂ (λ (x : List (List ℕ)) (y : EndWords). record { output = x; end = y }) e f
+use Rattle.b67_outcomes_all.proofs.Telling.{may_there, told}
 
 -- the end of an image is told as the end of its world
 ended : (i : Option ImageEnd) (end : End) → end_as i ≡ Some end → (e : ImageEnd) × (i ≡ Some e) × (shown_end end ≡ image_words e)
@@ -48,7 +46,7 @@ module _ (tree : PProgram) (code : Code) (found : Found) (os : List Told) (f : F
   told_end schedule o c img t =
       let x = told tree code found f all schedule c.world c.end c.legal c.ends img t in
       let e = ended (image_end x.image) c.end (sym x.tells.ends ∙ c.ends) in
-      let same = same_outcome o x.image.output (image_words e.0) (c.output ∙ sym x.tells.output) (c.shown ∙ e.2) in
+      let same = outcome_is o x.image.output (image_words e.0) (c.output ∙ sym x.tells.output) (c.shown ∙ e.2) in
       subst (λ (z : Outcome). OutcomeIsTold os z) (sym same) (state_is x.image e.0 x.is_kept e.1)
 
   told_stop : (before : List ℕ) (p : ℕ) (o : Outcome) → ComesToStop code before p o → OutcomeIsTold os o
@@ -63,7 +61,7 @@ module _ (tree : PProgram) (code : Code) (found : Found) (os : List Told) (f : F
       (subst (λ (q : ℕ). Stops code q x.image x.quiet) (sym x.noted.4) x.stops) in
       let own : OutcomeIsTold os (stopped_outcome x.image p x.quiet) = subst (λ (q : ℕ). OutcomeIsTold os (stopped_outcome x.image q x.quiet)) x.noted.4 contained in
       let same =
-      same_outcome o x.image.output (ends.StackLimit p (stack_length p x.quiet)) (c.output ∙ sym x.output_is)
+      outcome_is o x.image.output (ends.StackLimit p (stack_length p x.quiet)) (c.output ∙ sym x.output_is)
       (c.shown ∙ ap (λ (n : ℕ). ends.StackLimit p n) (sym x.words_are)) in
       subst (λ (z : Outcome). OutcomeIsTold os z) (sym same) own
 

@@ -1,29 +1,26 @@
 -- From runs of the code to the source.
-use Rattle.std.proofs.Common.{◌≡◌, refl, sym, ap, subst, ◌∙◌, ℕ, zero, suc, ◌+◌, ◌-◌, ◌<◌, ◌≤◌, Bool, true, false, true≢false, arith, List, [], ◌∷◌, ◌++◌, reverse, Option, Some, None, inl, inr}
+use Rattle.std.proofs.Common.{◌≡◌, refl, sym, ap, subst, ◌∙◌, ℕ, zero, suc, ◌+◌, ◌-◌, ◌<◌, Bool, true, false, arith, List, [], ◌∷◌, ◌++◌, reverse, Option, Some, None, inl, inr}
 use Rattle.std.specs.Prelude.{◌⊎◌, if◌then◌else◌}
 use Rattle.std.proofs.lemmas.Option.{same_Some, none-some}
-use Rattle.b67_list.specs.Numbered.{numbered}
 use Rattle.algol_tree.specs.Plain.{PProgram}
 use Rattle.algol_tree.specs.Scopes.{Scopes, scopes_of}
-use Rattle.algol_meaning.specs.World.{World, is_able, process_at}
+use Rattle.algol_meaning.specs.World.{World}
 use Rattle.algol_meaning.specs.Choice.{choice}
 use Rattle.algol_meaning.specs.Run.{start, run, run_from, after_entry, may_go}
 use Rattle.algol_meaning.specs.Run as meaning
 use Rattle.b67_segment.specs.declared.code.Code.{Code}
 use Rattle.b67_store.specs.Store.{stack_limit}
-use Rattle.b67_table.specs.declared.ProcessState.{ProcessState}
 use Rattle.b67_table.specs.Image.{Image}
-use Rattle.b67_table.specs.Image.{is_able as image_able}
-use Rattle.b67_table.specs.Ending.{ImageEnd, image_end, goes_on, may_act}
-use Rattle.b67_table.specs.Ending as machine
+use Rattle.b67_table.specs.Ending.{ImageEnd, image_end, may_act}
 use Rattle.b67_table.specs.Runs.{Runs, Plains, stay, TableRun, Tails, none, next}
-use Rattle.b67_table.proofs.Lists.{numbered_from}
+use Rattle.b67_table.proofs.Cited.{no_tails, number_there}
 use Rattle.b67_faithful.specs.Weight.{weight}
-use Rattle.b67_faithful.specs.Agreement.{Shows, end_as}
+use Rattle.b67_faithful.specs.Agreement.{end_as}
 use Rattle.b67_faithful.specs.Faithful.{Faithful, ComesToLimit}
 use Rattle.b67_outcomes.specs.declared.found.Found.{Found}
 use Rattle.b67_outcomes.specs.Entering.{HistoryLeadsTo}
 use Rattle.b67_outcomes.specs.Finding.{AreAll}
+use Rattle.b67_explain.proofs.Ending.{may_both}
 use Rattle.b67_outcomes_all.specs.Sources.{KeptAreLegal, KeptTellAll, StopsAreLimits, IsLimitNoted, IsToldIn}
 
 -- ---- worlds within a legal schedule
@@ -63,43 +60,12 @@ next_goes tree before p later w u e f =
 
 -- ---- worlds and images
 
-going : (e : Option ImageEnd) (able_now : Bool) → meaning.goes_on (end_as e) able_now ≡ goes_on e able_now
-going None able_now = refl
-going (Some machine.finished) able_now = refl
-going (Some (machine.faulted kind p)) able_now = refl
-going (Some machine.all_waiting) able_now = refl
-
--- a process may go on in the world where it may act in the image
-may_both : (code : Code) (w : World) (img : Image) (p : ℕ) → Shows code w img → may_go w p ≡ may_act img p
-unfolding may_go may_act
-may_both code w img p shows =
-    ap (λ e. meaning.goes_on e (is_able ((process_at w p).state))) shows.ends ∙ going (image_end img) (is_able ((process_at w p).state))
-    ∙ ap (goes_on (image_end img)) (shows.able p)
-
-pub no_tails : (code : Code) (p : ℕ) (a b : Image) → Tails code p a [] b → a ≡ b
-no_tails code p a b none = refl
-
 -- a history with its run is a run under its schedule
 run_of : (code : Code) (history : List ℕ) (img : Image) → HistoryLeadsTo code history img → TableRun code (reverse history) [] img
 run_of code history img leads =
     record { history = history; counts = leads.0; before_tails = img; order = refl; runs = leads.1; after = none }
 
 -- ---- the tail of a process that comes to the stack limit
-
-able_there : (img : Image) (p : ℕ) → may_act img p ≡ true → image_able (numbered img.states p) ≡ true
-unfolding may_act
-able_there img p e = by (image_end img) e
-  where
-    by : (o : Option ImageEnd) → goes_on o (image_able (numbered img.states p)) ≡ true → image_able (numbered img.states p) ≡ true
-    by None f = f
-    by (Some x) f = absurd (true≢false (sym f))
-
-some_state : (o : Option ProcessState) → image_able o ≡ true → (q : ProcessState) × (o ≡ Some q)
-some_state (Some q) e = (q, refl)
-some_state None e = absurd (true≢false (sym e))
-
-number_there : (img : Image) (p : ℕ) → may_act img p ≡ true → 1 ≤ p
-number_there img p e = let q = some_state (numbered img.states p) (able_there img p e) in numbered_from img.states p q.0 q.1
 
 -- so many processes without a tail, and one with this one
 abbrev tails_with : ℕ → ℕ → List ℕ

@@ -14,6 +14,7 @@ use Rattle.b67_table.specs.Beginning.{first_image, first_registers}
 use Rattle.b67_table.specs.Image.{Image, is_able}
 use Rattle.b67_table.specs.Privacy.{RegistersStay}
 use Rattle.b67_table.specs.Valid.{IsValid}
+use Rattle.b67_table.proofs.Cited.{keeps_both}
 use Rattle.b67_private.specs.Parts.{PlainParts, stay, go, IsPrivatePart, is_plain}
 use Rattle.b67_private.proofs.ValidParts.{first_part}
 use Rattle.b67_action.specs.declared.running.Ran.{Ran}
@@ -26,9 +27,6 @@ use Rattle.b67_parcel.specs.Parcels.{Stretch, IsTaken, IsStretch, part_for, IsCo
 
 keeps_self : (r : Registers) → RegistersStay r r
 keeps_self r = (refl, refl, refl, refl, refl, refl)
-
-keeps_both : (a b c : Registers) → RegistersStay a b → RegistersStay b c → RegistersStay a c
-keeps_both a b c k l = (l.0 ∙ k.0, l.1 ∙ k.1, l.2 ∙ k.2, l.3 ∙ k.3, l.4 ∙ k.4, l.5 ∙ k.5)
 
 -- ---- as it is filled
 
@@ -170,10 +168,6 @@ module _ (code : Code) (s : Stretch) (after : Private) (m : ℕ) (is : IsPlain c
 pub whole_of : (n : ℕ) (img : Image) (p : ℕ) (start : Private) → 1 ≤ n → part_for n img p ≡ Some start → whole_part img p ≡ Some start
 whole_of zero img p start some e = absurd (omega (arith, some))
 whole_of (suc n) img p start some e = e
-
-pub full_of : (n : ℕ) (start : Private) → 1 ≤ n → IsComplete n start → IsFull start
-full_of zero start some e = absurd (omega (arith, some))
-full_of (suc n) start some e = e
 
 -- its run, as it was performed on a copy of the start
 module _ (code other : Code) (s : Stretch) (copy end : Private) (ran : Ran) (noted : List Letter) (same : other ≡ code) (copied : copy ≡ s.start)

@@ -1,6 +1,8 @@
 -- What is done with one event: how it changes, who waits then, who is released, and what is told. One lemma for all deeds, by their table.
 use Rattle.std.proofs.Common.{◌≡◌, ◌≢◌, ◌⊎◌, inl, inr, refl, sym, ap, ◌∙◌, subst, ℕ, ◌≤◌, List, [], ◌∷◌, length, Option, Some, None, Bool, true, false, Ok, arith}
-use Rattle.b67_pictures.proofs.Prelude.{option_map, if◌then◌else◌, numbered, set_numbered, EventDeed, Deed, deed, after_change, EventState, IsListed, Letter, PProgram, Scopes, scopes_of, Named, Ask, ask, resume, Choice, choice, choice_of, goes, wakes_or_waits, event_at, set_event, list_in, all_withdrawn, Answer, done, value, Reference, event, truth, Process, Part, State, waits_for, procures, is_able, lives, World, event_in, cell_at, cells_with, followed, process_at, with_process, set_all_able, instance_at, BlockIsSeen, InAnswer, IsStanding, WaitersAreListed, IsOwn, Word, Place, Registers, Intrinsic, Placed, Code, stack_limit, same_place-true, same_place-self, is_open, event_changed, with_state, Event, list_of, Image, woken_number, Outcome, cell_place, plain, operator_at, AwaitsAt, able_again, told_positions, ProcessState, WaitsFor, Procures, letter, registers_releases, released_by, releases, AreNested, Texts, ActsAt, ComesTo, ActsOnAt, Slot, operand, Core, size, with_core, CoreAt, length_set_numbered, true_false, some_same, IsAsked, at_operator, registers_now, without_call, enter_class, numbered_set, numbered_other, same_or_not, action_not_plain, action_is, makes, unmade, facts_of, HasFacts, named_from, event_there, cell_there, LivesIn, lives_waiting, operator_there, idle_list, idle_nowhere, reached_stands, AbleActor, actor_of, state_there, choice_is, gives_within, process_is, text_in, level_in, context_in, most_in, stored_world, event_stays, TheLaws, IsEventAt, Pictures, PicturesBy, StateIs, AreAwaiting, ListIs, MayAct, Does, gave}
+use Rattle.b67_list.proofs.Numbered.{numbered_set}
+use Rattle.b67_list.proofs.Truths.{true_false}
+use Rattle.b67_pictures.proofs.Prelude.{option_map, if◌then◌else◌, numbered, set_numbered, EventDeed, Deed, deed, after_change, EventState, IsListed, Letter, PProgram, Scopes, scopes_of, Named, Ask, ask, resume, Choice, choice, choice_of, goes, wakes_or_waits, event_at, set_event, list_in, all_withdrawn, Answer, done, value, Reference, event, truth, Process, Part, State, waits_for, procures, is_able, lives, World, event_in, cell_at, cells_with, followed, process_at, with_process, set_all_able, instance_at, BlockIsSeen, InAnswer, IsStanding, WaitersAreListed, IsOwn, Word, Place, Registers, Intrinsic, Placed, Code, stack_limit, same_place_true, same_place_self, is_open, event_changed, with_state, Event, list_of, Image, woken_number, Outcome, cell_place, plain, operator_at, AwaitsAt, able_again, told_positions, ProcessState, WaitsFor, Procures, letter, registers_releases, released_by, releases, AreNested, Texts, ActsAt, ComesTo, ActsOnAt, Slot, operand, Core, size, with_core, CoreAt, length_set_numbered, some_same, IsAsked, at_operator, registers_now, without_call, enter_class, numbered_other, same_or_not, action_not_plain, action_is, makes, unmade, facts_of, HasFacts, named_from, event_there, cell_there, LivesIn, lives_waiting, operator_there, idle_list, idle_nowhere, reached_stands, AbleActor, actor_of, state_there, choice_is, gives_within, process_is, text_in, level_in, context_in, most_in, stored_world, event_stays, TheLaws, IsEventAt, Pictures, PicturesBy, StateIs, AreAwaiting, ListIs, MayAct, Does, gave}
 use Rattle.b67_deeds.specs.Deeds.{Next}
 use Rattle.b67_deeds.specs.Deeds as deeds
 use Rattle.b67_deeds.proofs.Lists.{Lists, deed_lists, waiting_frees_nobody}
@@ -300,7 +302,7 @@ module _ (tree : PProgram) (code : Code) (texts : Texts) (nested : AreNested (sc
             by_place : (b : Bool) → kernel.same_place at to ≡ b → IsListed (kernel.state_of (if b then option_map (with_state change) (kernel.event_at to img.events) else kernel.event_at to img.events)).waiters m →
                 AwaitsAt (numbered states m) (list_of m img.lists) to
             by_place true same l =
-                let to_is : at ≡ to = same_place-true at to same in
+                let to_is : at ≡ to = same_place_true at to same in
                 subst (λ (z : Place). AwaitsAt (numbered states m) (list_of m img.lists) z) to_is
                 (here (joins able_now m (subst (λ (z : Option Event). IsListed (kernel.state_of (option_map (with_state change) z)).waiters m) (ap (λ (z : Place). kernel.event_at z img.events) (sym to_is) ∙ has_there) l)))
             by_place false same l = as_before to l
@@ -395,10 +397,10 @@ module _ (tree : PProgram) (code : Code) (texts : Texts) (nested : AreNested (sc
               by_place : WaitsHere tree code texts w lay img s.by s.ok r at k → (to : Place) (b : Bool) → kernel.same_place at to ≡ b →
                   IsListed (kernel.state_of (if b then option_map (with_state change) (kernel.event_at to img.events) else kernel.event_at to img.events)).waiters k → kernel.event_is_among (list_of k img.lists) to ≡ true
               by_place h to true same l =
-                  let to_is : at ≡ to = same_place-true at to same in
+                  let to_is : at ≡ to = same_place_true at to same in
                   let gone : IsListed (change e).waiters k = subst (λ (z : Option Event). IsListed (kernel.state_of (option_map (with_state change) z)).waiters k) (ap (λ (z : Place). kernel.event_at z img.events) (sym to_is) ∙ has_there) l in
                   absurd (subst (λ (ks : List ℕ). IsListed ks k) none_waits gone)
-              by_place h to false same l = h.within to (λ (z : to ≡ at). let clash : false ≡ true = sym same ∙ same_place-self at to (sym z) in cc) l
+              by_place h to false same l = h.within to (λ (z : to ≡ at). let clash : false ≡ true = sym same ∙ same_place_self at to (sym z) in cc) l
 
           waiters_then : is_able ((process_at w p).state) ≡ true → (k : ℕ) → IsListed e.waiters k → Waiter before k
           waiters_then able_now k m =
@@ -467,7 +469,7 @@ module _ (tree : PProgram) (code : Code) (texts : Texts) (nested : AreNested (sc
 
               by_place : (to : Place) (b : Bool) → kernel.same_place at to ≡ b → IsListed (kernel.state_of (if b then option_map (with_state change) (kernel.event_at to img.events) else kernel.event_at to img.events)).waiters k → ⊥
               by_place to true same l =
-                  let to_is : at ≡ to = same_place-true at to same in
+                  let to_is : at ≡ to = same_place_true at to same in
                   here (joins able_now k (subst (λ (z : Option Event). IsListed (kernel.state_of (option_map (with_state change) z)).waiters k) (ap (λ (z : Place). kernel.event_at z img.events) (sym to_is) ∙ has_there) l))
               by_place to false same l = u.0 to l
 

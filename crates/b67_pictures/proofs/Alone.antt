@@ -1,6 +1,7 @@
 -- An action of a process leaves the other processes alone.
 use Rattle.std.proofs.Common.{◌≡◌, ◌≢◌, refl, sym, ap, ◌∙◌, subst, ℕ, zero, suc, List, [], ◌∷◌, Some, Bool, true, false}
-use Rattle.b67_pictures.proofs.Prelude.{◌&&◌, ◌||◌, slice_get, slice_set, numbered, set_numbered, Scopes, choice, is_this, some_depends, Instance, Process, lives, World, instance_at, or_no_instance, IsLow, IsStanding, IsOnPath, Place, none_some, HasFacts, KeepsArrays, StandOn, Layout, AreLaid, LeavesAlone, CanClimb, MayAct}
+use Rattle.b67_list.proofs.Numbers.{none_some}
+use Rattle.b67_pictures.proofs.Prelude.{◌&&◌, ◌||◌, slice_get, slice_set, numbered, set_numbered, Scopes, choice, is_this, some_depends, Instance, Process, lives, World, instance_at, or_no_instance, IsLow, IsStanding, IsOnPath, Place, HasFacts, KeepsArrays, StandOn, Layout, AreLaid, LeavesAlone, CanClimb, MayAct}
 use Rattle.b67_frames.proofs.ChoicePaths.{choice_paths}
 use Rattle.b67_scenes.proofs.Paths.{can_climb}
 

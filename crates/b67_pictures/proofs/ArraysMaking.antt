@@ -1,6 +1,7 @@
 -- The making of arrays: ENTR on ARRAYS, after which PUSH makes cells of the descriptors; or a fault.
 use Rattle.std.proofs.Common.{◌≡◌, refl, sym, ap, ◌∙◌, subst, ℕ, ◌≤◌, List, [], ◌∷◌, ◌++◌, length, Option, Some, None, Ok, Bool, true, false, arith}
-use Rattle.b67_pictures.proofs.Prelude.{if◌then◌else◌, FaultKind, block_numbered, PProgram, PPair, Scopes, scopes_of, Kind, Named, Ask, makes_arrays, resume, Choice, choice, choice_of, goes, fails, is_evaluation, done, Value, Bounds, Instance, World, or_no_instance, with_instance, with_process, NamedCell, Made, an_array, all_to_make, all_left_to_make, Word, Arrays, Placed, Code, failed, frame, plain, operator_at, simple_cells, AreNested, Texts, operands, intrinsic, mark, CellsAreMade, at_operator, enter_class, action_not_plain, action_is, fault_not_plain, length_mapped, events_replaced, asks_as_own, cells_length, Layout, Allotted, AreMade, ArraysAre, EventsAre, Framed, arrays_given, given_lie, IsCall, call, IsEntered, operator_there, AbleActor, actor_of, faults_so, choice_is, faulted, text_in, level_in, TheLaws, Pictures, Does, failed_by}
+use Rattle.b67_list.proofs.Lists.{length_map}
+use Rattle.b67_pictures.proofs.Prelude.{if◌then◌else◌, FaultKind, block_numbered, PProgram, PPair, Scopes, scopes_of, Kind, Named, Ask, makes_arrays, resume, Choice, choice, choice_of, goes, fails, is_evaluation, done, Value, Bounds, Instance, World, or_no_instance, with_instance, with_process, NamedCell, Made, an_array, all_to_make, all_left_to_make, Word, Arrays, Placed, Code, failed, frame, operator_at, simple_cells, AreNested, Texts, operands, intrinsic, mark, CellsAreMade, at_operator, action_is, fault_not_plain, events_replaced, asks_as_own, cells_length, Layout, Allotted, AreMade, ArraysAre, EventsAre, Framed, arrays_given, given_lie, IsCall, call, IsEntered, operator_there, AbleActor, actor_of, faults_so, choice_is, faulted, text_in, level_in, TheLaws, Pictures, Does, failed_by}
 use Rattle.b67_num.specs.declared.FaultKind.TheVariants.{ArraySize, CoreFull}
 use Rattle.algol_meaning.specs.Arrays.{new_arrays, has_wrong_size, has_no_room, bounds_of}
 use Rattle.algol_meaning.specs.World.{add_cells}
@@ -25,7 +26,7 @@ use Rattle.b67_pictures.proofs.Head.{Head}
 
 -- there are as many arrays as names
 made_arrays_many : (kind : Kind) (ns : List Named) (pairs : List PPair) → length (made_in kind ns pairs) ≡ length ns
-made_arrays_many kind ns pairs = length_mapped an_array (arrays_in kind ns pairs) ∙ length_mapped (λ (n : Named). record { name = n.name; kind = kind; pairs = pairs }) ns
+made_arrays_many kind ns pairs = length_map an_array (arrays_in kind ns pairs) ∙ length_map (λ (n : Named). record { name = n.name; kind = kind; pairs = pairs }) ns
 
 -- .. and none is an event
 arrays_are_no_events : (kind : Kind) (bs : List Bounds) (ns : List Named) → HaveNoEvent (new_arrays kind bs ns)
@@ -89,9 +90,6 @@ module _ (tree : PProgram) (code : Code) (texts : Texts) (nested : AreNested (sc
     chosen_by = choice_is sc w p q part outer s.at s.todo ∙ ap (λ (k : Ask). choice_of sc w p q part outer k) asks
 
     module _ (c : Called) where
-      not_plain : plain code img p ≡ false
-      not_plain = action_not_plain code (ops.Plain kinds.Entr) (at_operator s.has there) (enter_class code (at_operator s.has there) Arrays c.arguments c.reference c.marked c.others c.calls)
-
       none : c.others ≡ []
       none = none_left sc s.stands.held level (frame core.registers) (length core.below) c.others (c.after_at made).words_are
 

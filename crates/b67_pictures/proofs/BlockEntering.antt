@@ -1,6 +1,6 @@
 -- A block of a statement is entered.
 use Rattle.std.proofs.Common.{◌≡◌, refl, sym, ap, ◌∙◌, subst, ℕ, ◌+◌, ◌-◌, ◌*◌, ◌≤◌, List, [], ◌∷◌, ◌++◌, length, Option, Some, None, Bool, false, not, arith, Ok}
-use Rattle.b67_pictures.proofs.Prelude.{if◌then◌else◌, slice_get, Block, block_numbered, number_at, around, level_of, PProgram, PDecls, PStmts, Scopes, scopes_of, same_name, Spot, Kind, Ask, enters_block, resume, choice_of, is_evaluation, Answer, settle_items, items_of, Cell, instance_at, BlockIsSeen, IsSeenAround, IsInner, segment_of, IsStanding, Word, Place, irw_laws, as_sirw-other, as_pcw-pcw_word, kind_of-pcw_word, as_irw, as_sirw, as_pcw, Pcw, Placed, Spells, Code, place, look_seen, frame, display_at, cell_of, level_below, actuals_are_few, parameter_cells, result_cells_of, variables, zero_cells, procedures, actuals_of, CellsAt, Yields, yields_of, Context, decls_depth, stmts_depth, Has, code_at, LiesNested, Texts, context_of, Gives, pushed, ComesTo, control, mark, SlotIs, BlocksBegin, some_same, IsShortSegment, tokens_around, none_wanted, ActualsAre, most_is, makes, unmade, complete_of, controls_fit, Linked, level_around, owned_frame, asks_as_own, runs_at, IsInReach, block_controls, controls_count, most_around, IsComplete, Owned, run_level, Calls, part_there, shown_frame, AbleActor, actor_of, choice_is, text_in, level_in, context_in, most_in, names_in, TheLaws, Does}
+use Rattle.b67_pictures.proofs.Prelude.{if◌then◌else◌, slice_get, Block, block_numbered, number_at, around, level_of, PProgram, PDecls, PStmts, Scopes, scopes_of, same_name, Spot, Kind, Ask, enters_block, resume, choice_of, is_evaluation, Answer, settle_items, items_of, Cell, instance_at, BlockIsSeen, IsSeenAround, IsInner, segment_of, IsStanding, Word, Place, irw_laws, as_sirw_other, as_pcw_pcw_word, kind_of_pcw_word, as_irw, as_sirw, as_pcw, Pcw, Placed, Spells, Code, place, look_seen, frame, display_at, cell_of, level_below, actuals_are_few, parameter_cells, result_cells_of, variables, zero_cells, procedures, actuals_of, CellsAt, Yields, yields_of, Context, decls_depth, stmts_depth, Has, code_at, LiesNested, Texts, context_of, Gives, pushed, ComesTo, control, mark, SlotIs, BlocksBegin, some_same, IsShortSegment, tokens_around, none_wanted, ActualsAre, most_is, makes, unmade, complete_of, controls_fit, Linked, level_around, owned_frame, asks_as_own, runs_at, IsInReach, block_controls, controls_count, most_around, IsComplete, Owned, run_level, Calls, part_there, shown_frame, AbleActor, actor_of, choice_is, text_in, level_in, context_in, most_in, names_in, TheLaws, Does}
 use Rattle.algol_tree.specs.Plain.{body}
 use Rattle.algol_meaning.specs.Rest.{Item, entered}
 use Rattle.algol_meaning.specs.World.{block}
@@ -115,10 +115,10 @@ module _ (tree : PProgram) (code : Code) (texts : Texts) (nested : LiesNested tr
     HasControl x = SlotIs sc s.stands.held level (frame core.registers) (length core.below) (mark ∷ a.1) (control c) x
 
     no_irw : (x : Word) → HasControl x → as_irw x ≡ None
-    no_irw x is = irw_laws.other x (λ k. let other = sym (ap kind.kind_of is ∙ kind_of-pcw_word c at.fits) ∙ k in cc)
+    no_irw x is = irw_laws.other x (λ k. let other = sym (ap kind.kind_of is ∙ kind_of_pcw_word c at.fits) ∙ k in cc)
 
     no_sirw : (x : Word) → HasControl x → as_sirw x ≡ None
-    no_sirw x is = as_sirw-other x (λ k. let other = sym (ap kind.kind_of is ∙ kind_of-pcw_word c at.fits) ∙ k in cc)
+    no_sirw x is = as_sirw_other x (λ k. let other = sym (ap kind.kind_of is ∙ kind_of_pcw_word c at.fits) ∙ k in cc)
 
     -- no arrays are still to be made
     complete : IsComplete sc w lay part.instance
@@ -145,9 +145,9 @@ module _ (tree : PProgram) (code : Code) (texts : Texts) (nested : LiesNested tr
           there = ap (λ (k : ℕ). slice_get code.segments k) (same_segment ∙ sym s.stands.segment_is) ∙ s.stands.there.there;
           spells = subst (λ (k : ℕ). Spells (texts.placed k) s.stands.there.segment) (sym same_segment) s.stands.there.spells;
           leads = λ m x is. subst (λ (y : Pcw). Leads code img core a.0 x m y linked.at) c_is
-              (block_leads code img core a.0 x m c linked.at (no_irw x is) (no_sirw x is) (ap as_pcw is ∙ as_pcw-pcw_word c at.fits) home_there);
+              (block_leads code img core a.0 x m c linked.at (no_irw x is) (no_sirw x is) (ap as_pcw is ∙ as_pcw_pcw_word c at.fits) home_there);
           calls = λ x is. subst (λ (y : Pcw). look_seen img.stacks (called_by x (cell_of core.registers x)) ≡ Ok y) c_is
-              (block_calls code img core a.0 x (record { entered = false; stack = 0; displacement = 0; df = 0 }) c linked.at (no_irw x is) (no_sirw x is) (ap as_pcw is ∙ as_pcw-pcw_word c at.fits));
+              (block_calls code img core a.0 x (record { entered = false; stack = 0; displacement = 0; df = 0 }) c linked.at (no_irw x is) (no_sirw x is) (ap as_pcw is ∙ as_pcw_pcw_word c at.fits));
         }
 
     -- ---- its code

@@ -1,11 +1,11 @@
 -- The procedure that an entry or a START names: the frame that holds it, and its control word there.
 use Rattle.std.proofs.Common.{◌≡◌, sym, ap, ◌∙◌, subst, ℕ, suc, ◌+◌, ◌≤◌, ◌<◌, List, ◌∷◌, ◌++◌, length, Option, Some, true, arith}
-use Rattle.b67_pictures.proofs.Prelude.{slice_get, Block, block_numbered, number_at, around, level_of, PProgram, Scopes, scopes_of, use_of, Named, Instance, instance_at, or_no_instance, ancestor, BlockIsSeen, is_procedure, segment_of, Word, Place, pcw_word, Pcw, Couple, OUTER_LEVEL, Code, Segment, word_at, get_within as get_below, place, display_at, simple_cells, procedures, made_base, IsProcedure, code_at, LiesNested, Texts, ProgramAt, control_words, segment_low, get-front, get-behind, Linked, level_around, as_many_values, IsParent, IsInReach, block_controls, Found, named_parent, named_seen, named_shown, Actor, Seen, names_in}
+use Rattle.b67_list.proofs.Lists.{get_front, get_within as get_below}
+use Rattle.b67_pictures.proofs.Prelude.{slice_get, Block, block_numbered, number_at, around, level_of, PProgram, Scopes, scopes_of, use_of, Named, Instance, instance_at, or_no_instance, ancestor, BlockIsSeen, is_procedure, segment_of, Word, Place, pcw_word, Pcw, Couple, Code, Segment, word_at, place, display_at, simple_cells, procedures, made_base, IsProcedure, code_at, LiesNested, Texts, ProgramAt, control_words, segment_low, get_behind, Linked, level_around, as_many_values, IsParent, IsInReach, block_controls, Found, named_parent, named_seen, named_shown, Actor, Seen, names_in}
 use Rattle.b67_control.specs.Control.{Fits_pcw}
 use Rattle.b67_templates.specs.Nested.{IsDeclared}
 use Rattle.b67_rows.proofs.Numbers.{get_within}
 use Rattle.b67_rows.proofs.Segmented.{before_whole, procedure_segment, get_mapped}
-use Rattle.b67_rows.proofs.Parents.{length_around}
 use Rattle.b67_frames.proofs.ControlWords.{get_control}
 use Rattle.b67_frames.proofs.Lying.{Lies}
 use Rattle.b67_scenes.proofs.Led.{named_reached}
@@ -57,9 +57,6 @@ module _ (tree : PProgram) (code : Code) (program : ProgramAt code tree) (nested
 
     abbrev h : ℕ
     h = ancestor w up part.instance
-
-    high : up + OUTER_LEVEL ≤ names
-    high = omega (arith, length_around sc.blocks block, get_below (block ∷ around sc.blocks block) up u seen_there)
 
     parent : IsParent sc w lay part.instance up u
     parent = named_parent tree code texts actor n seen_there
@@ -148,13 +145,13 @@ module _ (tree : PProgram) (code : Code) (program : ProgramAt code tree) (nested
     cells_lie : slice_get lies.frame.cells far ≡ Some (pcw_word c)
     cells_lie =
         ap (λ (ws : List Word). slice_get ws far) lies.owned.framed.cells_is
-        ∙ get-behind lies.owned.framed.values (controls_there ++ lies.owned.framed.descriptors) named.number far
+        ∙ get_behind lies.owned.framed.values (controls_there ++ lies.owned.framed.descriptors) named.number far
         (omega (
           arith,
           as_many_values (simple_cells sc (block_numbered sc.blocks x.block)) lies.owned.framed.simple lies.owned.framed.values lies.owned.framed.simple_are,
           ap (λ (k : ℕ). length (simple_cells sc (block_numbered sc.blocks k))) block_is,
         ))
-        ∙ get-front controls_there lies.owned.framed.descriptors named.number (pcw_word c) control_lies
+        ∙ get_front controls_there lies.owned.framed.descriptors named.number (pcw_word c) control_lies
 
     far_low : 2 + far < made_base sc (block_numbered sc.blocks ((instance_at w h).block))
     far_low =

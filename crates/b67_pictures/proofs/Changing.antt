@@ -1,6 +1,8 @@
 -- An action changes a cell of an instance whose frame lies in the stack of whatever process: the image after it pictures the world after it.
 use Rattle.std.proofs.Common.{◌≡◌, ◌≢◌, ◌⊎◌, inl, inr, refl, sym, ap, ◌∙◌, subst, ℕ, ◌+◌, ◌<◌, ◌≤◌, List, ◌∷◌, ◌++◌, length, Option, Some, Bool, false, arith, true, []}
-use Rattle.b67_pictures.proofs.Prelude.{if◌then◌else◌, slice_get, numbered, IsListed, block_numbered, PProgram, Scopes, scopes_of, same_name, resume, referred_in, list_in, Cell, NamedCell, Instance, Process, Part, State, lives, World, or_no_instance, with_process, cells_with, Made, in_either, IsInSkeleton, referred_in_cells, IsStanding, IsOwn, Word, Registers, Code, stack_at, word_at, stack_limit, Event, waiters_at, place, Image, woken_number, floor, ProcessState, simple_cells, Texts, Core, size, over, HasCore, with_core, length_set_numbered, some_same, none_some, has_now, others_have, system_stays, same_or_not, numbered_set, HasFacts, facts_of, KeepsArrays, keeps_same, begins_core, StandOn, AreMade, ArraysAre, EventsAre, CellsAre, all_laid, Found, found_laid, LeavesAlone, alike_but, Actor, found_own, comes_to, IsStored, put, length_put, stored_world, others_at, ChangedCells, changed, EventsStay, state_stays, events_kept, events_beside, events_same, TheLaws, still_awaiting, waits_kept, waits_still, Living, living, PicturesBy, StateIs, AreAwaiting, WaitsAre}
+use Rattle.b67_list.proofs.Numbered.{numbered_set}
+use Rattle.b67_list.proofs.Numbers.{none_some}
+use Rattle.b67_pictures.proofs.Prelude.{if◌then◌else◌, slice_get, numbered, IsListed, block_numbered, PProgram, Scopes, scopes_of, same_name, resume, referred_in, list_in, Cell, NamedCell, Instance, Process, Part, State, lives, World, or_no_instance, with_process, cells_with, Made, in_either, IsInSkeleton, referred_in_cells, IsStanding, IsOwn, Word, Registers, Code, stack_at, word_at, stack_limit, Event, waiters_at, place, Image, woken_number, floor, ProcessState, simple_cells, Texts, Core, size, over, HasCore, with_core, length_set_numbered, some_same, has_now, others_have, system_stays, same_or_not, HasFacts, facts_of, KeepsArrays, keeps_same, begins_core, StandOn, AreMade, ArraysAre, EventsAre, CellsAre, all_laid, Found, found_laid, LeavesAlone, alike_but, Actor, found_own, comes_to, IsStored, put, length_put, stored_world, others_at, ChangedCells, changed, EventsStay, state_stays, events_kept, events_beside, events_same, TheLaws, still_awaiting, waits_kept, waits_still, Living, living, PicturesBy, StateIs, AreAwaiting, WaitsAre}
 use Rattle.algol_standing.proofs.Seen.{in_front, in_back}
 use Rattle.b67_rows.proofs.Numbers.{get_within}
 use Rattle.b67_scenes.proofs.StoringOthers.{stored_pictured}
@@ -74,9 +76,6 @@ module _ (tree : PProgram) (code : Code) (texts : Texts) (laws : TheLaws) (actor
 
     abbrev q' : Process
     q' = record q { todo = part' ∷ outer; state = state }
-
-    abbrev stored : World
-    stored = stored_world w i x at with_cells
 
     -- the world after it
     abbrev pub changed_world : World

@@ -1,6 +1,6 @@
 -- The reading of an element.
 use Rattle.std.proofs.Common.{◌≡◌, refl, sym, ap, ◌∙◌, subst, ℕ, List, [], ◌∷◌, ◌++◌, Option, Some, None, true, false, Ok}
-use Rattle.b67_pictures.proofs.Prelude.{InvalidIndex, Fault, PProgram, Scopes, scopes_of, use_of, Kind, Named, subscript_place, Ask, reads_element, Choice, choice, choice_of, here, value, Value, whole_of, Reference, Cell, cell_at, followed, array_in, Descriptor, Placed, Code, Row, row_at, index_in, failed, operator_at, HasKind, AreNested, Texts, ElementReadAt, Slot, operand, Core, with_core, array_asked, at_operator, whole_array, with_one, action_not_plain, fault_not_plain, action_is, makes, unmade, value_tag, ElementFound, element_found, index_below, HoldElements, MeantArray, array_home, operator_there, in_place, has_room, LastIndex, last_index, AbleActor, actor_of, choice_is, faults_so, faulted, text_in, level_in, context_in, most_in, TheLaws, Pictures, Does, failed_by}
+use Rattle.b67_pictures.proofs.Prelude.{InvalidIndex, Fault, PProgram, Scopes, scopes_of, use_of, Kind, Named, subscript_place, Ask, reads_element, Choice, choice, choice_of, here, value, Value, whole_of, Reference, Cell, cell_at, followed, array_in, Descriptor, Placed, Code, Row, row_at, index_in, failed, operator_at, HasKind, AreNested, Texts, ElementReadAt, Slot, operand, Core, with_core, array_asked, at_operator, whole_array, with_one, action_not_plain, fault_not_plain, action_is, makes, unmade, value_tag, ElementFound, element_found, HoldElements, MeantArray, array_home, operator_there, in_place, has_room, LastIndex, last_index, AbleActor, actor_of, choice_is, faults_so, faulted, text_in, level_in, context_in, most_in, TheLaws, Pictures, Does, failed_by}
 use Rattle.algol_meaning.specs.Arrays.{element_at}
 use Rattle.b67_deeds.specs.declared.Letter.TheVariants.{ElementRead}
 use Rattle.algol_meaning.specs.Choice.{element_read, element_read_at}
@@ -9,6 +9,7 @@ use Rattle.b67_ops.specs.declared.PlainKind.TheVariants as kinds
 use Rattle.b67_table.specs.Effect as effects
 use Rattle.b67_table.specs.Outcome as outcomes
 use Rattle.b67_table.specs.Table.{table}
+use Rattle.b67_table.proofs.Indexing.{index_below}
 use Rattle.b67_rows.proofs.IndexRows.{load_gives, load_faults, load_raw, load_class}
 use Rattle.b67_pictures.proofs.InFrame.{does_in_frame}
 use Rattle.b67_pictures.proofs.Head.{Head}

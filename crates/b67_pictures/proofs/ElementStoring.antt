@@ -1,5 +1,6 @@
 -- A store to an element.
 use Rattle.std.proofs.Common.{◌≡◌, ◌≢◌, ◌⊎◌, inl, inr, refl, sym, ap, ◌∙◌, subst, ℕ, ◌+◌, ◌≤◌, List, [], ◌∷◌, ◌++◌, length, Option, Some, None, Ok, arith}
+use Rattle.b67_list.proofs.Lists.{length_set}
 use Rattle.b67_pictures.proofs.Prelude.{numbered, ElementStore, block_numbered, level_of, PProgram, Scopes, scopes_of, Kind, Ask, stores, resume, Choice, choice, choice_of, goes, is_evaluation, done, element_of, Value, Reference, ArrayCell, Cell, array, NamedCell, Instance, Process, Part, World, instance_at, or_no_instance, with_instance, with_process, set_cell, cell_in, cells_with, array_in, Made, segment_of, Word, Placed, Code, Rows, stack_limit, Image, with_rows, frame, operator_at, told_by, element_or_not, stored_letter, operator_letter, Simple, simple_cells, HasKind, Texts, Slot, element, operand, descriptor, Core, size, HasCore, IsCore, with_core, ValueIs, newest, SlotsAre, CoreAt, at_operator, registers_now, without_two, same_or_not, action_not_plain, action_is, Top, top_slot, makes, unmade, value_tag, arrays_unchanged, ElementFound, element_found, event_before, events_replaced, facts_of, KeepsArrays, known_is, OwnCells, framed_cells, AreMade, HoldElements, ArraysAre, IsElement, EventsAre, IsInReach, CellsAre, FrameStands, run_level, at_element, ElementHome, element_home, Found, operator_there, AbleActor, actor_of, gives_within, choice_is, most_in, length_cells, stored_world, ChangedCells, changed, TheLaws, PicturesBy, MayAct, Does, gave}
 use Rattle.algol_meaning.specs.Arrays.{with_element, flat}
 use Rattle.b67_ops.specs.declared.Operator.TheVariants as ops
@@ -13,7 +14,6 @@ use Rattle.b67_rows.proofs.IndexRows.{two_seen, stored_gives, stored_raw, stored
 use Rattle.b67_frames.proofs.MadeArrays.{IsPast, past_values}
 use Rattle.b67_pictures.proofs.Alone.{IsAfter, after_choice}
 use Rattle.b67_pictures.proofs.Changing.{refers_fewer, own_pictured, other_pictured, CellChange, PicturesElse}
-use Rattle.b67_rows.proofs.StackWords.{length-set}
 use Rattle.b67_frames.proofs.StoredCells.{made_stays}
 use Rattle.b67_frames.proofs.StoredElement.{element_stored, element_keeps, StoresElement}
 use Rattle.b67_pictures.proofs.Head.{Head}
@@ -157,7 +157,7 @@ module _ (tree : PProgram) (code : Code) (texts : Texts) (laws : TheLaws) (actor
             references = λ n c word there lies is. (there, lies);
             arrays = cells_with arrays r.name (array later);
             simple_are = are;
-            made = made_stays r.name e.cell later (record { bounds = refl; many = length-set e.cell.elements (flat 0 e.cell.bounds ks) v }) declared arrays (lay.rows i) descriptors
+            made = made_stays r.name e.cell later (record { bounds = refl; many = length_set e.cell.elements (flat 0 e.cell.bounds ks) v }) declared arrays (lay.rows i) descriptors
                 (sym (past.found arrays) ∙ means_all) made;
             has = ap (λ (cells : List NamedCell). cells_with cells r.name (array later)) has_cells ∙ past.changed arrays (array later);
           }

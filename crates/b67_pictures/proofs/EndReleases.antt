@@ -1,5 +1,6 @@
 -- EXIT of the base frame of a process with a task: what it comes to, and whom it releases.
 use Rattle.std.proofs.Common.{◌≡◌, refl, ap, ◌∙◌, ℕ, ◌+◌, List, [], ◌∷◌, ◌++◌, length, take, drop, Option, Some, Bool, false, append-nil}
+use Rattle.b67_list.proofs.Lists.{take_front}
 use Rattle.b67_pictures.proofs.Prelude.{if◌then◌else◌, reverse, numbered, set_numbered, caused, Word, Place, Registers, Code, Rows, words_of, Event, closed_from, waiters_at, event_changed, with_state, unlisted, gives, Image, with_rows, arrays_closed, is_critical, frame, Program, Change, asked, answer, live_criticals, able_again, told_positions, Ended, registers_releases, Core, AtOperator, words_are, ended_at}
 use Rattle.std.specs.Prelude.{nat_eq}
 use Rattle.b67_num.specs.declared.FaultKind.TheVariants.{CriticalBlockExit}
@@ -16,7 +17,6 @@ use Rattle.b67_table.specs.Writes.{write_made}
 use Rattle.b67_table.specs.Writes as writes
 use Rattle.b67_letters.proofs.Calm.{arrays_have}
 use Rattle.b67_letters.specs.Releases.{change_releases, effect_releases, fetched_releases}
-use Rattle.b67_rows.proofs.StackWords.{take-seam}
 use Rattle.b67_frames.proofs.ExitRow.{exit_causes}
 
 -- What EXIT finds at the last frame of a process that has a task.
@@ -67,7 +67,7 @@ module _ (code : Code) (here : AtOperator code (ops.Plain kinds.Exit)) (exits : 
   cells_there : take r.cells (drop (0 + 2) (words_of img.stacks r.stack)) ≡ cells
   cells_there =
       ap (λ (ws : List Word). take r.cells (drop (0 + 2) ws)) (words_are img p core has ∙ ap (λ (ws : List Word). ws ++ reverse core.words) below)
-      ∙ take-seam cells (reverse core.words) r.cells counted
+      ∙ take_front cells (reverse core.words) r.cells counted
 
   exit_asked : asked img (exit r next) ≡ gives (arrays_closed cells (last (Some task)))
   exit_asked =

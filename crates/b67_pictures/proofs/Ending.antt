@@ -1,6 +1,8 @@
 -- The end of a process: its last part is left; where it has no task, nothing else changes.
 use Rattle.std.proofs.Common.{◌≡◌, ◌≢◌, refl, sym, ap, ◌∙◌, subst, ℕ, zero, suc, ◌≤◌, List, [], ◌∷◌, ◌++◌, length, Option, Some, None, Bool, true, Ok, arith, false, ◌⊎◌, inl, inr}
-use Rattle.b67_pictures.proofs.Prelude.{if◌then◌else◌, numbered, IsListed, End, PProgram, Scopes, scopes_of, Ask, leaves, ask, Choice, choice, choice_of, left_with, left_or_ended, ended_releasing, fails, some_depends, is_evaluation, caused_by_end, list_in, leave, done, Reference, Instance, Process, Part, ended, World, instance_at, with_instance, with_process, is_able, process_at, IsOwn, Word, Place, Registers, OUTER_LEVEL, Code, Stacks, stack_at, stack_limit, is_from, closed_from, waiters_at, Image, is_live, is_critical, frame, live_criticals, operator_at, ProcessState, Ended, Texts, ActionAt, Core, HasCore, length_set_numbered, none_some, at_operator, numbered_set, numbered_other, IsSameBut, same_but, action_not_plain, arrays_unchanged, IsClosed, FramesClose, events_left, events_unchanged, IsElsewhere, event_outside, ended_at, exit_class, exit_action, HasFacts, facts_of, owned_frame, ArraysAre, EventsAre, Owned, AreLaid, all_laid, operator_there, idle_list, idle_nowhere, LeavesAlone, AreAlike, alike_but, frame_is, actor_of, OutmostActor, state_there, choice_is, comes_to, gives_within, process_is, text_in, level_in, context_in, most_in, EventsStay, awaiting_beside, fewer_closed, waits_still, held_of, TaskIs, Pictures, dead, PicturesBy, WaitsAre, Does, gave}
+use Rattle.b67_list.proofs.Numbered.{numbered_set}
+use Rattle.b67_list.proofs.Numbers.{none_some}
+use Rattle.b67_pictures.proofs.Prelude.{if◌then◌else◌, numbered, IsListed, End, PProgram, Scopes, scopes_of, Ask, leaves, ask, Choice, choice, choice_of, left_with, left_or_ended, ended_releasing, fails, some_depends, is_evaluation, caused_by_end, list_in, leave, done, Reference, Instance, Process, Part, ended, World, instance_at, with_instance, with_process, is_able, process_at, IsOwn, Word, Place, Registers, OUTER_LEVEL, Code, Stacks, stack_at, stack_limit, is_from, closed_from, waiters_at, Image, is_live, is_critical, frame, live_criticals, operator_at, ProcessState, Ended, Texts, ActionAt, Core, HasCore, length_set_numbered, at_operator, numbered_other, IsSameBut, same_but, action_not_plain, arrays_unchanged, IsClosed, FramesClose, events_left, events_unchanged, IsElsewhere, event_outside, ended_at, exit_class, exit_action, HasFacts, facts_of, owned_frame, ArraysAre, EventsAre, Owned, AreLaid, all_laid, operator_there, idle_list, idle_nowhere, LeavesAlone, AreAlike, alike_but, frame_is, actor_of, OutmostActor, state_there, choice_is, comes_to, gives_within, process_is, text_in, level_in, context_in, most_in, EventsStay, awaiting_beside, fewer_closed, waits_still, held_of, TaskIs, Pictures, dead, PicturesBy, WaitsAre, Does, gave}
 use Rattle.b67_num.specs.declared.FaultKind.TheVariants as fault
 use Rattle.b67_ops.specs.declared.Operator.TheVariants as ops
 use Rattle.b67_ops.specs.declared.PlainKind.TheVariants as kinds

@@ -1,6 +1,6 @@
 -- Accidental entry: VALC or EVAL enters the code of the actual that a parameter's cell names, and the part waits for its value or its place.
 use Rattle.std.proofs.Common.{◌≡◌, refl, sym, ap, ◌∙◌, subst, ℕ, ◌+◌, ◌<◌, ◌≤◌, List, [], ◌∷◌, length, Option, Some, Ok, Bool, true, false, arith}
-use Rattle.b67_pictures.proofs.Prelude.{if◌then◌else◌, numbered, NotAVariable, block_numbered, level_of, PProgram, Scopes, scopes_of, Kind, Named, Ask, reads, resolves, located_of, choice_of, read_of, resolved_of, is_subscripted, opens, fails, settle_actual_place, Cell, Instance, name_place, instance_at, or_no_instance, BlockIsSeen, segment_of, Word, Place, as_pcw-pcw_word, as_sirw, as_pcw, pcw_word, Irw, Pcw, Couple, Code, place, frame, irw_or_sirw, cell_of, couple_cell, operator_at, has_place, in_routine, Yields, depth, LiesNested, Texts, context_of, selected, ComesTo, Slot, newest, IsShortSegment, at_operator, place_reached_class, Reaches, reached_through, value_reached_class, action_not_plain, action_is, HaveTexts, makes, unmade, pcw_refers_nothing, most_around, routine_of, Found, operator_there, ActualNamed, AbleActor, Actor, actor_of, choice_is, text_in, level_in, TheLaws, Does}
+use Rattle.b67_pictures.proofs.Prelude.{if◌then◌else◌, numbered, NotAVariable, block_numbered, level_of, PProgram, Scopes, scopes_of, Kind, Named, Ask, reads, resolves, located_of, choice_of, read_of, resolved_of, is_subscripted, opens, fails, settle_actual_place, Cell, Instance, name_place, instance_at, or_no_instance, BlockIsSeen, segment_of, Word, Place, as_pcw_pcw_word, as_sirw, as_pcw, pcw_word, Irw, Pcw, Couple, Code, place, frame, irw_or_sirw, cell_of, couple_cell, operator_at, has_place, in_routine, Yields, depth, LiesNested, Texts, context_of, selected, ComesTo, Slot, newest, IsShortSegment, at_operator, place_reached_class, Reaches, reached_through, value_reached_class, action_not_plain, action_is, HaveTexts, makes, unmade, pcw_refers_nothing, most_around, routine_of, Found, operator_there, ActualNamed, AbleActor, Actor, actor_of, choice_is, text_in, level_in, TheLaws, Does}
 use Rattle.b67_scenes.proofs.ActualEntries.{Takes}
 use Rattle.algol_meaning.specs.Asks.{evaluated_of}
 use Rattle.algol_meaning.specs.Settle.{settle}
@@ -20,7 +20,7 @@ use Rattle.b67_scenes.proofs.ActualEntries as entries
 use Rattle.b67_scenes.proofs.ActualHomes.{same_place}
 use Rattle.b67_pictures.proofs.EvaluationEntering.{Evaluation, Awaits, entering_evaluation}
 use Rattle.b67_pictures.proofs.Resolving.{FindsName, finds_name}
-use Rattle.b67_pictures.proofs.Head.{At, WaitsAfter, ReturnsAfter, Head}
+use Rattle.b67_pictures.proofs.Head.{Head}
 
 -- what the entry of an actual's code needs of the code of the program: it is short, and stands in its segments; from the start of the code of
 -- an actual the machine comes to where it stands for its value and for its place, and has room for that; and a frame may be lent
@@ -76,7 +76,7 @@ module _ (tree : PProgram) (code : Code) (texts : Texts) (nested : LiesNested tr
         h.actual.control_lies (pcw_refers_nothing control)
 
     pub control_read : as_pcw (pcw_word control) ≡ Some control
-    control_read = as_pcw-pcw_word control h.actual.fits
+    control_read = as_pcw_pcw_word control h.actual.fits
 
     -- it is evaluated for its value, or for its place
     pub value_evaluation : Evaluation tree code texts w h.a.instance h.a.actual h.actual.at name_read (value kind) false (evaluated_of (settle sc h.a.actual))
@@ -112,12 +112,6 @@ module _ (tree : PProgram) (code : Code) (texts : Texts) (nested : LiesNested tr
   open actor use {w, img, p, q, part, outer, core, s}
 
   module _ (n : Named) where
-    abbrev WaitsHere : (k : Ask) → At tree code texts (actor_of s) k → Type 0
-    WaitsHere k a = WaitsAfter tree code texts (actor_of s) k a
-
-    abbrev ReturnsHere : (k : Ask) → At tree code texts (actor_of s) k → Type 0
-    ReturnsHere k a = ReturnsAfter tree code texts (actor_of s) k a
-
     abbrev IsNamed : Kind → Couple → Type 0
     IsNamed kind couple = ActualNamed tree code texts nested.nested (actor_of s) n kind couple
 

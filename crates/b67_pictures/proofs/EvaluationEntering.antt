@@ -1,6 +1,7 @@
 -- An evaluation is entered: a part that evaluates an actual has a frame without cells above the words of the part around, which waits. No instance is made.
 use Rattle.std.proofs.Common.{◌≡◌, ◌⊎◌, inl, inr, refl, sym, ap, ◌∙◌, subst, ℕ, zero, suc, ◌+◌, ◌-◌, ◌*◌, ◌≤◌, ◌<◌, List, [], ◌∷◌, length, Some, Bool, true, false, arith, None}
-use Rattle.b67_pictures.proofs.Prelude.{if◌then◌else◌, slice_get, numbered, Enter, block_numbered, level_of, PProgram, Scopes, scopes_of, nothing, ask, resume, Choice, choice, is_evaluation, Rest, Answer, Instance, Process, Part, Purpose, World, instance_at, or_no_instance, ancestor, with_process, all_to_make, all_left_to_make, KeepsToText, segment_of, newest_own, Word, Place, place_at, Placed, Code, stack_limit, place, entered_mark, control_word, frame, plain, letter, has_place, in_routine, Yields, depth, LiesNested, Texts, context_of, Gives, pushed, selected, ComesTo, Slot, slots_length, Core, size, IsCore, HasCore, with_core, newest, SlotsAre, CoreAt, length_set_numbered, IsShortSegment, tokens_around, part_weight, weight, parts_weight, has_now, others_have, system_stays, shown, lower_of, numbered_set, most_or_more, HaveTexts, arrays_unchanged, events_unchanged, HasFacts, facts_of, keeps_same, Linked, StayBelow, top_still, StandOn, frame_resumed, AreKnown, IsInReach, most_around, run_level, IsChained, Frame, Waits, Around, of_lent, Lent, AreLaid, all_laid, Found, found_laid, alike_by, steps_none, living_of, AbleActor, actor_of, gives_within, limit_beyond, goes_on, weight_of, text_in, level_in, context_in, most_in, FrameStill, frame_still, still_low, parts_weigh, known_stays, task_stays, state_stays, events_same, TheLaws, Living, Pictures, PicturesBy, Does, gave, stopped}
+use Rattle.b67_list.proofs.Numbered.{numbered_set}
+use Rattle.b67_pictures.proofs.Prelude.{if◌then◌else◌, slice_get, numbered, Enter, block_numbered, level_of, PProgram, Scopes, scopes_of, nothing, ask, resume, Choice, choice, is_evaluation, Rest, Answer, Instance, Process, Part, Purpose, World, instance_at, or_no_instance, ancestor, with_process, all_to_make, all_left_to_make, KeepsToText, segment_of, newest_own, Word, Place, place_at, Placed, Code, stack_limit, place, entered_mark, control_word, frame, plain, letter, has_place, in_routine, Yields, depth, LiesNested, Texts, context_of, Gives, pushed, selected, ComesTo, Slot, slots_length, Core, size, IsCore, HasCore, with_core, newest, SlotsAre, CoreAt, length_set_numbered, IsShortSegment, tokens_around, part_weight, weight, parts_weight, has_now, others_have, system_stays, shown, lower_of, most_or_more, HaveTexts, arrays_unchanged, events_unchanged, HasFacts, facts_of, keeps_same, Linked, StayBelow, top_still, StandOn, frame_resumed, AreKnown, IsInReach, most_around, run_level, IsChained, Frame, Waits, Around, of_lent, Lent, AreLaid, all_laid, Found, found_laid, alike_by, steps_none, living_of, AbleActor, actor_of, gives_within, limit_beyond, goes_on, weight_of, text_in, level_in, context_in, most_in, FrameStill, frame_still, still_low, parts_weigh, known_stays, task_stays, state_stays, events_same, TheLaws, Living, Pictures, PicturesBy, Does, gave, stopped}
 use Rattle.algol_tree.specs.Plain as forms
 use Rattle.algol_tree.specs.Plain.{PExpr}
 use Rattle.algol_meaning.specs.Rest.{entered}

@@ -1,6 +1,8 @@
 -- The frame of an evaluation is left: no instance is left, no row is closed, and the part around goes on with the value, or with the place.
 use Rattle.std.proofs.Common.{◌≡◌, ◌≢◌, inl, inr, refl, sym, ap, ◌∙◌, subst, ℕ, zero, suc, List, [], ◌∷◌, length, Option, Some, None, Bool, true, false, Ok, arith, ◌⊎◌, ◌++◌}
-use Rattle.b67_pictures.proofs.Prelude.{list_any, if◌then◌else◌, is_some, ◌||◌, ◌==◌, reverse, numbered, EventState, Leave, PProgram, Scopes, scopes_of, Kind, Ask, leaves, ask, Choice, choice, choice_of, left_with, left_or_ended, fails, some_depends, Answer, value, Value, Process, Part, lives, World, with_process, instance_at, ancestor, IsStanding, IsOnPath, IsOwn, newest_own, Word, Place, as_sirw, Descriptor, Sirw, Code, Rows, one_event, same_place, is_from, as_indexed, place, gives, Image, with_rows, arrays_closed, is_critical, frame, Change, live_criticals, is_result, plain, operator_at, Below, letter, Yields, AreNested, Texts, ActionAt, Gives, PlaceIsFound, held_at, operand, descriptor, Core, IsCore, HasCore, Known, length_set_numbered, true_false, at_operator, system_stays, Leaves, after, outer_is, left_has, left_others, numbered_set, operand_given, return_raw, return_class, return_action, action_not_plain, Top, top_slot, HaveTexts, value_tag, arrays_unchanged, IsElsewhere, event_outside, HasFacts, facts_of, KeepsArrays, known_is, keeps_same, StayBelow, Layout, ArraysAre, AreKnown, HeldIs, EventsAre, HasEvent, IsInReach, Waits, Lent, all_laid, element_home, operator_there, AreAlike, alike_by, names_variable, Actor, actor_of, InnerActor, choice_is, gives_within, goes_on, text_in, level_in, context_in, most_in, state_stays, events_same, TheLaws, fewer_closed, held_of, Living, Pictures, PicturesBy, StateIs, Does, gave, leaves_here}
+use Rattle.b67_list.proofs.Numbered.{numbered_set}
+use Rattle.b67_list.proofs.Truths.{true_false}
+use Rattle.b67_pictures.proofs.Prelude.{list_any, if◌then◌else◌, is_some, ◌||◌, ◌==◌, reverse, numbered, EventState, Leave, PProgram, Scopes, scopes_of, Kind, Ask, leaves, ask, Choice, choice, choice_of, left_with, left_or_ended, fails, some_depends, Answer, value, Value, Process, Part, lives, World, with_process, instance_at, ancestor, IsStanding, IsOnPath, IsOwn, newest_own, Word, Place, as_sirw, Descriptor, Sirw, Code, Rows, one_event, same_place, is_from, as_indexed, place, gives, Image, with_rows, arrays_closed, is_critical, frame, Change, live_criticals, is_result, plain, operator_at, Below, letter, Yields, AreNested, Texts, ActionAt, Gives, PlaceIsFound, held_at, operand, descriptor, Core, IsCore, HasCore, Known, length_set_numbered, at_operator, system_stays, Leaves, after, outer_is, left_has, left_others, operand_given, return_raw, return_class, return_action, action_not_plain, Top, top_slot, HaveTexts, value_tag, arrays_unchanged, IsElsewhere, event_outside, HasFacts, facts_of, KeepsArrays, known_is, keeps_same, StayBelow, Layout, ArraysAre, AreKnown, HeldIs, EventsAre, HasEvent, IsInReach, Waits, Lent, all_laid, element_home, operator_there, AreAlike, alike_by, names_variable, Actor, actor_of, InnerActor, choice_is, gives_within, goes_on, text_in, level_in, context_in, most_in, state_stays, events_same, TheLaws, fewer_closed, held_of, Living, Pictures, PicturesBy, StateIs, Does, gave, leaves_here}
 use Rattle.b67_num.specs.declared.FaultKind.TheVariants as fault
 use Rattle.algol_meaning.specs.Rest as rests
 use Rattle.b67_ops.specs.declared.Operator.TheVariants as ops

@@ -1,6 +1,8 @@
 -- One event of a world becomes another one, and nobody acts: the image in which it has changed pictures the world after it.
 use Rattle.std.proofs.Common.{◌≡◌, refl, sym, ap, ◌∙◌, subst, ℕ, ◌+◌, List, ◌++◌, length, Some, None, true}
-use Rattle.b67_pictures.proofs.Prelude.{slice_get, numbered, EventState, block_numbered, PProgram, Scopes, scopes_of, set_event, change_event, Reference, event, NamedCell, Instance, Process, lives, World, instance_at, or_no_instance, event_in, cell_in, cell_at, cells_with, Made, an_event, IsInSkeleton, IsOwn, referred_in_cells, Word, Place, Code, event_changed, with_state, place, Image, simple_cells, made_base, made_of, Texts, Core, HasCore, length_set_numbered, some_same, none_some, true_false, HasFacts, KeepsArrays, StandOn, OwnCells, framed_cells, OwnEvent, known_event, Layout, AreMade, event_there, HasEvent, EventsAre, CellsAre, all_laid, LeavesAlone, put, stored_world, others_at, stored_on, ChangedCells, changed, CellStore, others_stored, EventsStay, events_kept, events_beside, waits_kept, IsEventAt, Living, Pictured, living, dead, PicturesBy, AreAwaiting}
+use Rattle.b67_list.proofs.Numbers.{none_some}
+use Rattle.b67_list.proofs.Truths.{true_false}
+use Rattle.b67_pictures.proofs.Prelude.{slice_get, numbered, EventState, block_numbered, PProgram, Scopes, scopes_of, set_event, change_event, Reference, event, NamedCell, Instance, Process, lives, World, instance_at, or_no_instance, event_in, cell_in, cell_at, cells_with, Made, an_event, IsInSkeleton, IsOwn, referred_in_cells, Word, Place, Code, event_changed, with_state, place, Image, simple_cells, made_base, made_of, Texts, Core, HasCore, length_set_numbered, some_same, HasFacts, KeepsArrays, StandOn, OwnCells, framed_cells, OwnEvent, known_event, Layout, AreMade, event_there, HasEvent, EventsAre, CellsAre, all_laid, LeavesAlone, put, stored_world, others_at, stored_on, ChangedCells, changed, CellStore, others_stored, EventsStay, events_kept, events_beside, waits_kept, IsEventAt, Living, Pictured, living, dead, PicturesBy, AreAwaiting}
 use Rattle.algol_meaning.specs.World.{no_process}
 use Rattle.b67_events.specs.Events as kernel
 use Rattle.b67_scenes.proofs.EventThere as there

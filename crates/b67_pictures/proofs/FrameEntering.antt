@@ -1,6 +1,9 @@
 -- A frame is entered: the instance of a block or a procedure has it above the words of the part around, which waits.
 use Rattle.std.proofs.Common.{◌≡◌, ◌≢◌, refl, sym, ap, ◌∙◌, subst, ℕ, zero, suc, ◌+◌, ◌*◌, ◌≤◌, ◌<◌, List, [], ◌∷◌, ◌++◌, length, Option, Some, None, Bool, false, arith, append_assoc, append-nil, length-append, true}
-use Rattle.b67_pictures.proofs.Prelude.{nat_tests, length-reverse, if◌then◌else◌, ◌&&◌, ◌||◌, ◌==◌, replicate, reverse, slice_get, numbered, Enter, Block, block_numbered, level_of, PProgram, Scopes, scopes_of, nothing, ask, resume, Choice, choice, is_this, is_evaluation, some_depends, fresh_cells, Answer, Given, settle_items, items_of, Cell, Instance, Process, Purpose, Part, lives, World, instance_at, or_no_instance, ancestor, with_process, all_to_make, all_left_to_make, KeepsToText, segment_of, IsStanding, newest_own, Word, Place, pcw_word, place_at, Pcw, Registers, Placed, Code, stack_limit, numbered_within, place, entered_mark, control_word, frame, Wanted, parameter_cells, zero_cells, simple_cells, actuals_of, made_of, CellsAt, in_routine, yields_of, Yields, LiesNested, Texts, context_of, Gives, pushed, ComesTo, Slot, Core, size, IsCore, HasCore, with_core, newest, SlotsAre, CoreAt, BlocksBegin, control_words, length_set_numbered, none_some, IsShortSegment, tokens_around, part_weight, weight, parts_weight, has_now, others_have, system_stays, lower_of, ActualsAre, numbered_last, numbered_before, numbered_earlier, numbered_set, length_mapped, rows_there, no_elements, no_rows, arrays_joined, block_few, events_joined, HasFacts, facts_of, LeadAll, fresh_are, simple_many, KeepsArrays, Remain, denotes_lasts, keeps_same, all_each, StayBelow, runs_at, top_still, as_many_values, StandOn, frame_resumed, zero_word, cells_length, Allotted, Layout, AreMade, AreKnown, IsInReach, block_controls, controls_count, most_around, CellsAre, IsChained, home_of, Framed, ItemsStand, Frame, Waits, Around, of_own, run_level, AreLaid, all_laid, Calls, AreAlike, living_of, reached_stands, AbleActor, actor_of, gives_within, goes_on, weight_of, text_in, level_in, context_in, most_in, FrameStill, frame_still, still_low, known_stays, parts_weigh, names_in, EventsStay, critical_stays, task_stays, state_stays, events_before, TheLaws, Living, Pictures, PicturesBy, Does, gave}
+use Rattle.b67_list.proofs.Lists.{length_map}
+use Rattle.b67_list.proofs.Numbered.{numbered_set}
+use Rattle.b67_list.proofs.Numbers.{none_some}
+use Rattle.b67_pictures.proofs.Prelude.{nat_tests, length-reverse, if◌then◌else◌, ◌&&◌, ◌||◌, ◌==◌, replicate, reverse, slice_get, numbered, Enter, Block, block_numbered, level_of, PProgram, Scopes, scopes_of, nothing, ask, resume, Choice, choice, is_this, is_evaluation, some_depends, fresh_cells, Answer, settle_items, items_of, Cell, Instance, Process, Purpose, Part, lives, World, instance_at, or_no_instance, ancestor, with_process, all_to_make, all_left_to_make, KeepsToText, segment_of, IsStanding, newest_own, Word, Place, pcw_word, place_at, Pcw, Registers, Placed, Code, stack_limit, numbered_within, place, entered_mark, control_word, frame, parameter_cells, zero_cells, simple_cells, actuals_of, made_of, CellsAt, in_routine, yields_of, Yields, LiesNested, Texts, context_of, Gives, pushed, ComesTo, Slot, Core, size, IsCore, HasCore, with_core, newest, SlotsAre, CoreAt, BlocksBegin, control_words, length_set_numbered, IsShortSegment, tokens_around, part_weight, weight, parts_weight, has_now, others_have, system_stays, lower_of, ActualsAre, numbered_last, numbered_before, numbered_earlier, rows_there, no_elements, no_rows, arrays_joined, block_few, events_joined, HasFacts, facts_of, LeadAll, fresh_are, simple_many, KeepsArrays, Remain, denotes_lasts, keeps_same, all_each, StayBelow, runs_at, top_still, as_many_values, StandOn, frame_resumed, zero_word, cells_length, Allotted, Layout, AreMade, AreKnown, IsInReach, block_controls, controls_count, most_around, CellsAre, IsChained, home_of, Framed, ItemsStand, Frame, Waits, Around, of_own, run_level, AreLaid, all_laid, AreAlike, living_of, reached_stands, AbleActor, actor_of, gives_within, goes_on, weight_of, text_in, level_in, context_in, most_in, FrameStill, frame_still, still_low, known_stays, parts_weigh, names_in, EventsStay, critical_stays, task_stays, state_stays, events_before, TheLaws, Living, Pictures, PicturesBy, Does, gave}
 use Rattle.algol_meaning.specs.Rest.{entered}
 use Rattle.algol_meaning.specs.Instances as instances
 use Rattle.b67_table.specs.Outcome as outcomes
@@ -8,7 +11,7 @@ use Rattle.b67_table.specs.Table.{table}
 use Rattle.b67_templates.specs.Fragments.{FragmentGoes}
 use Rattle.b67_cores.specs.Stretches.{CoreBegins}
 use Rattle.b67_templates.specs.Nested.{IsText}
-use Rattle.b67_rows.proofs.StackWords.{length-stack}
+use Rattle.b67_rows.proofs.StackWords.{length_stack}
 use Rattle.b67_rows.proofs.Texted.{block_keeps, block_makes}
 use Rattle.b67_frames.specs.Frames.{RoutinesStand}
 use Rattle.b67_frames.proofs.ArraysKept.{rows_but, rows_other}
@@ -64,9 +67,6 @@ module _ (tree : PProgram) (code : Code) (texts : Texts) (nested : LiesNested tr
 
   abbrev sc : Scopes
   sc = scopes_of tree
-
-  abbrev CallsThere : List Wanted → List Given → Slot → ℕ → List Slot → ℕ → ℕ → ℕ → Type 0
-  CallsThere wanted gs slot next waiting h j begin = Calls tree code texts nested short (actor_of s) wanted gs slot next waiting h j begin
 
   -- These cells of the block's parameters have the words of the actuals, and those of arrays lead to arrays.
   pub record AreCells (j : ℕ) (given : List Cell) (ws : List Word) : Type 0 where
@@ -180,7 +180,7 @@ module _ (tree : PProgram) (code : Code) (texts : Texts) (nested : LiesNested tr
           length-append (taken ++ zeros) (control_words controls),
           as_many_values (simple_cells sc b) (fresh_cells b given) (taken ++ zeros) cells_are,
           all_many,
-          length_mapped (λ (pcw : Pcw). pcw_word pcw) controls,
+          length_map (λ (pcw : Pcw). pcw_word pcw) controls,
         )
 
     -- ---- the world
@@ -298,7 +298,7 @@ module _ (tree : PProgram) (code : Code) (texts : Texts) (nested : LiesNested tr
     new_long = length-append lower (mark ∷ control ∷ taken) ∙ omega arith
 
     more_long : at ≡ length core.below + length more
-    more_long = length-stack core.below more
+    more_long = length_stack core.below more
 
     abbrev bound' : ℕ
     bound' = at + 2 + length taken + (many + length controls) + most_around tree j

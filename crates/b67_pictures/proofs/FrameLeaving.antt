@@ -1,6 +1,7 @@
 -- The frame of a block or of a procedure is left: it goes, and the part around goes on, with what is given.
 use Rattle.std.proofs.Common.{◌≡◌, ◌≢◌, refl, sym, ap, ◌∙◌, subst, ℕ, ◌<◌, List, [], ◌∷◌, length, Option, Some, None, Bool, false, arith, true, ◌⊎◌, inl, inr, ◌++◌}
-use Rattle.b67_pictures.proofs.Prelude.{if◌then◌else◌, reverse, numbered, Leave, PProgram, Scopes, scopes_of, Ask, leaves, ask, Choice, choice, choice_of, left_with, left_or_ended, fails, some_depends, is_evaluation, leave, Process, Part, lives, World, instance_at, IsStanding, IsOwn, Word, Place, Code, Rows, is_from, place, gives, Image, plain, Below, letter, Texts, Core, IsCore, HasCore, length_set_numbered, some_same, system_stays, Leaves, after, outer_is, left_has, left_others, numbered_set, IsSameBut, same_but, HaveTexts, arrays_unchanged, IsClosed, FramesClose, events_left, IsElsewhere, event_outside, HasFacts, facts_of, KeepsArrays, StayBelow, owned_frame, ArraysAre, EventsAre, Waits, Owned, all_laid, AreAlike, alike_but, InnerActor, choice_is, gives_within, goes_on, TheLaws, fewer_closed, held_of, Living, Pictures, PicturesBy, StateIs, Does, gave, leaves_here}
+use Rattle.b67_list.proofs.Numbered.{numbered_set}
+use Rattle.b67_pictures.proofs.Prelude.{if◌then◌else◌, reverse, numbered, Leave, PProgram, Scopes, scopes_of, Ask, leaves, ask, Choice, choice, choice_of, left_with, left_or_ended, fails, some_depends, is_evaluation, leave, Process, Part, lives, World, instance_at, IsStanding, IsOwn, Word, Place, Code, Rows, is_from, place, gives, Image, plain, Below, letter, Texts, Core, IsCore, HasCore, length_set_numbered, some_same, system_stays, Leaves, after, outer_is, left_has, left_others, IsSameBut, same_but, HaveTexts, arrays_unchanged, IsClosed, FramesClose, events_left, IsElsewhere, event_outside, HasFacts, facts_of, KeepsArrays, StayBelow, owned_frame, ArraysAre, EventsAre, Waits, Owned, all_laid, AreAlike, alike_but, InnerActor, choice_is, gives_within, goes_on, TheLaws, fewer_closed, held_of, Living, Pictures, PicturesBy, StateIs, Does, gave, leaves_here}
 use Rattle.b67_num.specs.declared.FaultKind.TheVariants as fault
 use Rattle.b67_table.specs.Outcome as outcomes
 use Rattle.b67_table.specs.Table.{raw, table}

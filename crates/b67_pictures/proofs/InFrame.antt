@@ -1,6 +1,7 @@
 -- Actions that change nothing but what lies above the cells of the process's own frame, and the output.
 use Rattle.std.proofs.Common.{◌≡◌, ◌≢◌, ◌⊎◌, inl, inr, refl, sym, ap, ◌∙◌, subst, ℕ, ◌+◌, ◌<◌, ◌≤◌, List, [], ◌∷◌, length, Some, None, false, arith}
-use Rattle.b67_pictures.proofs.Prelude.{numbered, Letter, PProgram, scopes_of, resume, Choice, choice, Answer, Process, Part, World, instance_at, with_process, all_to_make, all_left_to_make, BlockIsSeen, InAnswer, Word, place_at, Registers, Code, stack_limit, Image, woken_number, frame, plain, letter, Yields, Texts, ComesTo, Slot, slots_length, Core, size, HasCore, with_core, Known, CoreAt, length_set_numbered, weight, has_now, others_have, system_stays, numbered_set, most_or_more, arrays_unchanged, events_unchanged, HasFacts, facts_of, keeps_same, StayBelow, StandOn, frame_resumed, AreKnown, IsInReach, IsChained, Frame, AreLaid, all_laid, alike_by, steps_none, living_of, Actor, actor_of, AbleActor, gives_within, limit_beyond, weight_of, process_is, text_in, level_in, context_in, most_in, FrameStill, frame_still, frame_low, chained_stays, top_stays, parts_weigh, known_stays, names_in, task_stays, state_stays, events_same, TheLaws, CriticalIs, TaskIs, Pictures, PicturesBy, WaitsAre, MayAct, Does, gave, stopped}
+use Rattle.b67_list.proofs.Numbered.{numbered_set}
+use Rattle.b67_pictures.proofs.Prelude.{numbered, Letter, PProgram, scopes_of, resume, Choice, choice, Answer, Process, Part, World, instance_at, with_process, all_to_make, all_left_to_make, BlockIsSeen, InAnswer, Word, place_at, Registers, Code, stack_limit, Image, woken_number, frame, plain, letter, Yields, Texts, ComesTo, Slot, slots_length, Core, size, HasCore, with_core, Known, CoreAt, length_set_numbered, weight, has_now, others_have, system_stays, most_or_more, arrays_unchanged, events_unchanged, HasFacts, facts_of, keeps_same, StayBelow, StandOn, frame_resumed, AreKnown, IsInReach, IsChained, Frame, AreLaid, all_laid, alike_by, steps_none, living_of, Actor, actor_of, AbleActor, gives_within, limit_beyond, weight_of, process_is, text_in, level_in, context_in, most_in, FrameStill, frame_still, frame_low, chained_stays, top_stays, parts_weigh, known_stays, names_in, task_stays, state_stays, events_same, TheLaws, CriticalIs, TaskIs, Pictures, PicturesBy, WaitsAre, MayAct, Does, gave, stopped}
 use Rattle.b67_table.specs.Effect as effects
 use Rattle.b67_table.specs.Outcome as outcomes
 use Rattle.b67_table.specs.Table.{table, raw}

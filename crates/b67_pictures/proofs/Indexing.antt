@@ -1,6 +1,6 @@
 -- An index, to a row or to an element.
 use Rattle.std.proofs.Common.{◌≡◌, inl, inr, refl, sym, ap, ◌∙◌, subst, ℕ, ◌<◌, List, [], ◌∷◌, ◌++◌, length, Option, Some, None, Bool, true, false, Ok, ℤ}
-use Rattle.b67_pictures.proofs.Prelude.{map, InvalidIndex, Fault, PProgram, Scopes, scopes_of, use_of, Kind, Named, subscript_place, Ask, indexes, ask, resume, Choice, choice, choice_of, here, Answer, element_of, Value, number, whole_of, Reference, Cell, followed, array_in, Shape, Word, Descriptor, Couple, Operator, Placed, Code, Row, row_at, index_in, failed, Image, frame, operator_at, operator_letter, AreNested, Texts, ActionAt, Acted, ComesTo, of_row, of_element, element, Slot, operand, reference, intrinsic, control, descriptor, mark, Core, with_core, Known, SlotIs, SlotsAre, array_asked, at_operator, whole_array, with_one, action_not_plain, fault_not_plain, action_is, makes, unmade, index_below, HoldElements, IsElement, HeldIs, IsInReach, MeantArray, array_home, operator_there, Finds, in_place, has_room, LastIndex, last_index, FirstIndex, first_of_two, AbleActor, actor_of, choice_is, faults_so, faulted, text_in, level_in, context_in, most_in, TheLaws, Pictures, Does, failed_by}
+use Rattle.b67_pictures.proofs.Prelude.{map, InvalidIndex, Fault, PProgram, Scopes, scopes_of, use_of, Kind, Named, subscript_place, Ask, indexes, ask, resume, Choice, choice, choice_of, here, Answer, element_of, Value, number, whole_of, Reference, Cell, followed, array_in, Shape, Word, Descriptor, Couple, Operator, Placed, Code, Row, row_at, index_in, failed, Image, frame, operator_at, operator_letter, AreNested, Texts, ActionAt, Acted, ComesTo, of_row, of_element, element, Slot, operand, reference, intrinsic, control, descriptor, mark, Core, with_core, Known, SlotIs, SlotsAre, array_asked, at_operator, whole_array, with_one, action_not_plain, fault_not_plain, action_is, makes, unmade, HoldElements, IsElement, HeldIs, IsInReach, MeantArray, array_home, operator_there, Finds, in_place, has_room, LastIndex, last_index, FirstIndex, first_of_two, AbleActor, actor_of, choice_is, faults_so, faulted, text_in, level_in, context_in, most_in, TheLaws, Pictures, Does, failed_by}
 use Rattle.algol_meaning.specs.Arrays.{size_of}
 use Rattle.algol_meaning.specs.Rest.{place}
 use Rattle.b67_deeds.specs.declared.Letter.TheVariants.{Index}
@@ -12,6 +12,7 @@ use Rattle.b67_table.specs.declared.Class.TheVariants as classes
 use Rattle.b67_table.specs.Effect as effects
 use Rattle.b67_table.specs.Outcome as outcomes
 use Rattle.b67_table.specs.Table.{table, raw, class_at}
+use Rattle.b67_table.proofs.Indexing.{index_below}
 use Rattle.b67_letters.specs.Letters.{letter_by}
 use Rattle.b67_standing.specs.Stepping.{HeldWord, row}
 use Rattle.b67_standing.specs.Standing.{ElementIndexAt, RowIndexAt}

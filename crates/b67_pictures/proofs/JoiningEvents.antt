@@ -1,6 +1,8 @@
 -- A process joins those who wait for several events: its image with it in all of their lists pictures the world after that.
 use Rattle.std.proofs.Common.{◌≡◌, ◌≢◌, ◌⊎◌, inl, inr, refl, sym, ap, ◌∙◌, subst, ℕ, List, [], ◌∷◌, Option, Some, Bool, true, false}
-use Rattle.b67_pictures.proofs.Prelude.{if◌then◌else◌, ◌||◌, numbered, set_numbered, joined, IsListed, PProgram, Scopes, scopes_of, change_event, Reference, Process, waits_any, lives, World, with_process, IsOwn, Place, Code, same_place-self, waiters_at, event_is_among, with_state, list_of, Image, with_events, AwaitsAt, ProcessState, WaitsAny, Texts, some_same, none_some, same_or_not, numbered_set, numbered_other, HasFacts, Layout, process_is, events_same, list_stays, PicturesBy, AreAwaiting, ListIs}
+use Rattle.b67_list.proofs.Numbered.{numbered_set}
+use Rattle.b67_list.proofs.Numbers.{none_some}
+use Rattle.b67_pictures.proofs.Prelude.{if◌then◌else◌, ◌||◌, numbered, set_numbered, joined, IsListed, PProgram, Scopes, scopes_of, change_event, Reference, Process, waits_any, lives, World, with_process, IsOwn, Place, Code, same_place_self, waiters_at, event_is_among, with_state, list_of, Image, with_events, AwaitsAt, ProcessState, WaitsAny, Texts, some_same, same_or_not, numbered_other, HasFacts, Layout, process_is, events_same, list_stays, PicturesBy, AreAwaiting, ListIs}
 use Rattle.algol_meaning.specs.Events as meant
 use Rattle.algol_meaning.specs.Events.{joined_all}
 use Rattle.b67_events.specs.Events as kernel
@@ -65,7 +67,7 @@ module _ (tree : PProgram) (code : Code) (texts : Texts) (lay : Layout) where
           (subst (λ (o : Option ProcessState). AwaitsAt o (list_of k img.lists) to) (sym state) (within to (first_is here.1)))
         where
           first_is : at ≡ to → event_is_among (at ∷ ats) to ≡ true
-          first_is e = ap (λ (b : Bool). b || event_is_among ats to) (same_place-self at to e)
+          first_is e = ap (λ (b : Bool). b || event_is_among ats to) (same_place_self at to e)
 
       by_test : (a b : Bool) → a ≡ b → PicturesBy tree code texts (joined_all w k (r ∷ seen) rs) lay (with_events img (joining k (at ∷ seen_at) ats img.events)) →
           PicturesBy tree code texts (joined_all (change_event w r (Some (joined k))) k (r ∷ seen) rs) lay (with_events img (joining k (at ∷ seen_at) ats (kernel.event_changed at (with_state (joined k)) img.events))) →

@@ -1,6 +1,8 @@
 -- GO TO: all frames above that of the label's instance are left, and its part goes on with the statements from the label on.
 use Rattle.std.proofs.Common.{◌≡◌, ◌≢◌, ◌⊎◌, refl, sym, ap, ◌∙◌, subst, ℕ, ◌+◌, ◌≤◌, Bool, true, false, List, [], ◌∷◌, length, length-append, Option, Some, None, arith, Ok, ◌<◌}
-use Rattle.b67_pictures.proofs.Prelude.{if◌then◌else◌, ◌==◌, pos, slice_get, numbered, set_numbered, block_numbered, level_of, PProgram, Scopes, scopes_of, use_of, Named, Ask, goes_to, ask, Choice, choice, choice_of, gone_to, fails, is_evaluation, own_instances, leave, cut_at, settle_items, items_from, Value, number, Instance, Process, Part, World, instance_at, or_no_instance, with_process, ancestor, KeepsToText, RestsKeepToTheirText, JumpsKeepToTheirText, segment_of, IsStanding, IsOwn, Place, place_at, GoTo, Code, stack_limit, place, rebuilt, Image, is_critical, look_seen, frame, display_at, at_or, Change, live_criticals, operator_at, simple_cells, made_of, in_routine, Yields, yields_of, Texts, context_of, ActionAt, AreNumbers, ComesTo, Core, size, IsCore, HasCore, with_core, CoreAt, FragmentsArePerformed, length_set_numbered, weight, at_operator, has_now, others_have, system_stays, shown, shown_top, rebuilt_seen, enter_class, numbered_set, IsSameBut, action_not_plain, action_is, HasText, arrays_unchanged, IsElsewhere, HasFacts, facts_of, Hangs, hangs, KeepsArrays, Linked, Begins_with, begins_core, begins_front, StayBelow, part_stands, owned_frame, frame_gives, runs_at, StandOn, framed_cells, EventsAre, IsChained, most_around, IsComplete, Frame, Owned, of_own, run_level, all_laid, IsCall, call, operator_there, Way, AreAlike, steps_none, living_of, frame_is, AbleActor, actor_of, choice_is, gives_within, goes_on, weight_of, text_in, level_in, context_in, most_in, names_in, frame_low, FrameStill, frame_still, still_low, same_weight, task_stays, state_stays, held_of, Living, Pictures, PicturesBy, Does, gave}
+use Rattle.b67_list.proofs.Numbered.{numbered_set}
+use Rattle.b67_list.proofs.Numbers.{number_told}
+use Rattle.b67_pictures.proofs.Prelude.{if◌then◌else◌, ◌==◌, pos, slice_get, numbered, set_numbered, block_numbered, level_of, PProgram, Scopes, scopes_of, use_of, Named, Ask, goes_to, ask, Choice, choice, choice_of, gone_to, fails, is_evaluation, own_instances, leave, cut_at, settle_items, items_from, Value, number, Instance, Process, Part, World, instance_at, or_no_instance, with_process, ancestor, KeepsToText, RestsKeepToTheirText, JumpsKeepToTheirText, segment_of, IsStanding, IsOwn, Place, place_at, GoTo, Code, stack_limit, place, rebuilt, Image, is_critical, look_seen, frame, display_at, at_or, Change, live_criticals, operator_at, simple_cells, made_of, in_routine, Yields, yields_of, Texts, context_of, ActionAt, AreNumbers, ComesTo, Core, size, IsCore, HasCore, with_core, CoreAt, FragmentsArePerformed, length_set_numbered, weight, at_operator, has_now, others_have, system_stays, shown, shown_top, rebuilt_seen, enter_class, IsSameBut, action_not_plain, action_is, HasText, arrays_unchanged, IsElsewhere, HasFacts, facts_of, Hangs, hangs, KeepsArrays, Linked, Begins_with, begins_core, begins_front, StayBelow, part_stands, owned_frame, frame_gives, runs_at, StandOn, framed_cells, EventsAre, IsChained, most_around, IsComplete, Frame, Owned, of_own, run_level, all_laid, IsCall, call, operator_there, Way, AreAlike, steps_none, living_of, frame_is, AbleActor, actor_of, choice_is, gives_within, goes_on, weight_of, text_in, level_in, context_in, most_in, names_in, frame_low, FrameStill, frame_still, still_low, same_weight, task_stays, state_stays, held_of, Living, Pictures, PicturesBy, Does, gave}
 use Rattle.b67_num.specs.declared.FaultKind.TheVariants as fault
 use Rattle.b67_deeds.specs.declared.Letter.TheVariants as act
 use Rattle.algol_meaning.specs.Choice.{gone}
@@ -13,7 +15,7 @@ use Rattle.b67_table.specs.Outcome as outcomes
 use Rattle.b67_table.specs.Program.{changed}
 use Rattle.b67_table.specs.Table.{table}
 use Rattle.b67_cores.specs.Cores.{stack_of}
-use Rattle.b67_rows.proofs.Displays.{same_is, IsEntered}
+use Rattle.b67_rows.proofs.Displays.{IsEntered}
 use Rattle.b67_frames.proofs.JumpClosing.{events_left, AreClosed, image_left}
 use Rattle.b67_frames.proofs.JumpRow.{jumped, Jumps, after_jump, jump_raw, jump_blocked, JumpsIn}
 use Rattle.b67_frames.proofs.OwnCells.{none_later}
@@ -421,7 +423,7 @@ module _ (tree : PProgram) (code : Code) (texts : Texts) (needs : LeadsJumps tre
     -- the label's instance stands in the process's own stack
     own_there : ((instance_at w i).process == p) ≡ true
     own_there =
-        same_is ((instance_at w i).process) p
+        number_told ((instance_at w i).process) p
         (ap (λ (x : Instance). x.process) (sym (places.instance_there tree code texts needs (actor_of s) n asks a own))
         ∙ (places.owned tree code texts needs (actor_of s) n asks a own).framed.own)
 

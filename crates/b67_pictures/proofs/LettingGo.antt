@@ -1,7 +1,10 @@
 -- A process that is released from a wait leaves all events for which it waits: its image without it in any list of an event, with its woken number,
 -- pictures the world after that.
 use Rattle.std.proofs.Common.{◌≡◌, ◌≢◌, ◌⊎◌, inl, inr, refl, sym, ap, ◌∙◌, subst, ℕ, zero, suc, List, [], ◌∷◌, length, Option, Some, None, true}
-use Rattle.b67_pictures.proofs.Prelude.{map, numbered, set_numbered, EventState, left_by, IsListed, PProgram, Scopes, scopes_of, change_event, event_at, list_in, all_withdrawn, Reference, event, Process, able, lives, World, cell_at, process_at, with_process, set_able, set_all_able, Instance, or_no_instance, cell_in, IsOwn, Place, Code, Event, waiters_at, event_is_among, with_state, list_of, unlisted, Image, woken_number, with_events, able_again, told_positions, Texts, Core, HasCore, length_set_numbered, some_same, none_some, same_or_not, numbered_set, numbered_other, numbered_beyond, HasFacts, Layout, EventsAre, numbered_swap, process_is, EventsStay, event_stays, number_by, number_is, list_stays, still_awaiting, IsEventAt, Pictured, living, dead, PicturesBy, AreAwaiting, ListIs}
+use Rattle.b67_list.proofs.Lists.{set_set_here}
+use Rattle.b67_list.proofs.Numbered.{numbered_set}
+use Rattle.b67_list.proofs.Numbers.{none_some}
+use Rattle.b67_pictures.proofs.Prelude.{map, numbered, set_numbered, EventState, left_by, IsListed, PProgram, Scopes, scopes_of, change_event, event_at, list_in, all_withdrawn, Reference, event, Process, able, lives, World, cell_at, process_at, with_process, set_able, set_all_able, Instance, or_no_instance, cell_in, IsOwn, Place, Code, Event, waiters_at, event_is_among, with_state, list_of, unlisted, Image, woken_number, with_events, able_again, told_positions, Texts, Core, HasCore, length_set_numbered, some_same, same_or_not, numbered_other, numbered_beyond, HasFacts, Layout, EventsAre, numbered_swap, process_is, EventsStay, event_stays, number_by, number_is, list_stays, still_awaiting, IsEventAt, Pictured, living, dead, PicturesBy, AreAwaiting, ListIs}
 use Rattle.b67_deeds.specs.Listed.{AreOnce}
 use Rattle.algol_meaning.specs.World.{or_no_process}
 use Rattle.algol_meaning.specs.Events.{forgotten, told_number, woken_by, withdrawn}
@@ -16,7 +19,6 @@ use Rattle.b67_pictures.proofs.EventMoving.{IsOwned, moved_is, moved_world, move
 use Rattle.b67_pictures.proofs.SameEvents.{AllOwned, position_there}
 use Rattle.b67_pictures.proofs.SameShape.{IsSameShape, shape_self, shape_on, event_moves, event_later, states_set, states_self, states_on, AreSameButStates, states_back, stays_shape}
 use Rattle.b67_pictures.proofs.Walking.{walked, walked_all, all_changed, step_fewer, left_fewer, left_gone}
-use Rattle.algol_standing.proofs.Going.{set_twice}
 use Rattle.b67_scenes.proofs.Kept.{living_there}
 
 -- ---- worlds
@@ -31,7 +33,7 @@ let_go_all w r (p ∷ ps) = let_go_all (let_go_one w r p) r ps
 
 pub numbered_again : {A : Type 0} (xs : List A) (k : ℕ) (x y : A) → set_numbered (set_numbered xs k x) k y ≡ set_numbered xs k y
 numbered_again xs zero x y = refl
-numbered_again xs (suc k) x y = set_twice xs k x y
+numbered_again xs (suc k) x y = set_set_here xs k x y
 
 -- another process beside it
 forgotten_beside : (rs : List Reference) (w : World) (p : ℕ) (q : Process) (k : ℕ) → forgotten (with_process w p q) k rs ≡ with_process (forgotten w k rs) p q

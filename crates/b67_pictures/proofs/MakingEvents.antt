@@ -1,6 +1,8 @@
 -- The making of an event: ENTR on EVENT, after which PUSH makes a cell of its word.
 use Rattle.std.proofs.Common.{◌≡◌, ◌≢◌, ◌⊎◌, inl, inr, refl, sym, ap, ◌∙◌, subst, ℕ, ◌+◌, List, [], ◌∷◌, ◌++◌, length, Option, Some, None, Ok, false, arith, length-append}
-use Rattle.b67_pictures.proofs.Prelude.{slice_get, EventState, Block, block_numbered, PProgram, Scopes, scopes_of, Named, Ask, makes_event, resume, choice, choice_of, is_evaluation, done, ArrayCell, event, array, NamedCell, Instance, Part, World, or_no_instance, with_instance, with_process, Made, an_event, all_to_make, all_left_to_make, IsOwn, Place, event_word, Code, get_within, place, frame, operator_at, simple_cells, made_base, AreNested, Texts, Slot, intrinsic, mark, SlotsAre, CellsAreMade, at_operator, made_many, IsElsewhere, asks_as_own, below_frame, cells_length, Allotted, Layout, AreMade, ArraysAre, HasEvent, EventsAre, Framed, IsEntered, entered_with, operator_there, AbleActor, actor_of, choice_is, text_in, level_in, TheLaws, held_of, Does}
+use Rattle.b67_list.proofs.Lists.{get_within}
+use Rattle.b67_table.proofs.Stacks.{get_append}
+use Rattle.b67_pictures.proofs.Prelude.{slice_get, EventState, Block, block_numbered, PProgram, Scopes, scopes_of, Named, Ask, makes_event, resume, choice, choice_of, is_evaluation, done, ArrayCell, event, array, NamedCell, Instance, Part, World, or_no_instance, with_instance, with_process, Made, an_event, all_to_make, all_left_to_make, IsOwn, Place, event_word, Code, place, frame, operator_at, simple_cells, made_base, AreNested, Texts, Slot, intrinsic, mark, SlotsAre, CellsAreMade, at_operator, made_many, IsElsewhere, asks_as_own, below_frame, cells_length, Allotted, Layout, AreMade, ArraysAre, HasEvent, EventsAre, Framed, IsEntered, entered_with, operator_there, AbleActor, actor_of, choice_is, text_in, level_in, TheLaws, held_of, Does}
 use Rattle.b67_deeds.specs.declared.Letter.TheVariants.{MakeEvent}
 use Rattle.b67_deeds.specs.Events.{fresh_state}
 use Rattle.b67_events.specs.Events.{event_opened}
@@ -8,7 +10,7 @@ use Rattle.b67_ops.specs.declared.Operator.TheVariants as ops
 use Rattle.b67_ops.specs.declared.PlainKind.TheVariants as kinds
 use Rattle.b67_ops.specs.declared.intrinsic.Intrinsic.TheVariants.{Event}
 use Rattle.b67_rows.proofs.MakingAsked.{makes_event_first}
-use Rattle.b67_frames.proofs.EventCells.{arrays_still, event_has_none, array_in_front, get_first}
+use Rattle.b67_frames.proofs.EventCells.{arrays_still, event_has_none, array_in_front}
 use Rattle.b67_frames.proofs.EventRows.{event_raw}
 use Rattle.b67_frames.proofs.EventsChanged.{events_made}
 use Rattle.b67_frames.proofs.EventsLow.{event_in_frame}
@@ -132,7 +134,7 @@ module _ (tree : PProgram) (code : Code) (texts : Texts) (nested : AreNested (sc
             let in_front = array_in_front x.cells n.name fresh_state (length (simple_cells sc b) + k) name c lies in
             let low = get_within x.cells (length (simple_cells sc b) + k) (record { name = name; cell = array c }) in_front in (
               in_front,
-              sym (get_first (lay.rows i) (none_allotted ∷ []) k (omega (arith, low, many, rows_many)))
+              sym (get_append (lay.rows i) (none_allotted ∷ []) k (omega (arith, low, many, rows_many)))
                   ∙ ap (λ (as' : List Allotted). slice_get as' k)
                   (sym (frames.rows_here tree code texts nested keeps order (actor_of s) owns ms made_first (one ∷ []) (none_allotted ∷ []) (event_word (record {}) ∷ []) added))
                   ∙ allots,

@@ -1,6 +1,7 @@
 -- The frames that the words of parameters name are those of the instances to which their cells refer.
 use Rattle.std.proofs.Common.{◌≡◌, inl, inr, refl, sym, ap, ◌∙◌, subst, ℕ, ◌+◌, ◌^◌, ◌<◌, ◌≤◌, List, [], ◌∷◌, ◌++◌, length, Option, Some, arith}
-use Rattle.b67_pictures.proofs.Prelude.{numbered, block_numbered, PProgram, Scopes, scopes_of, Parameter, MOST_BLOCK_CELLS, referred_in, referred_by, Cell, simple, event, array, named, Instance, World, instance_at, or_no_instance, an_array, an_event, numbered_small, IsOk, IsInSkeleton, IsStanding, IsWholeInstance, Word, Place, as_sirw, Sirw, Code, get_within, place, Image, cell_word, named_frames, Simple, Wanted, simple_cells, actuals_of, made_of, AreNested, Texts, some_same, IsAmongPlaces, value_tag, no_sirw, block_few, LeadAll, found_low, Layout, Denotes, CellsAre, Found as FoundFrame, find, found_laid, two_below, PicturesBy}
+use Rattle.b67_list.proofs.Lists.{get_within}
+use Rattle.b67_pictures.proofs.Prelude.{numbered, block_numbered, PProgram, Scopes, scopes_of, Parameter, MOST_BLOCK_CELLS, referred_in, referred_by, Cell, simple, event, array, named, Instance, World, instance_at, or_no_instance, an_array, an_event, numbered_small, IsOk, IsInSkeleton, IsStanding, IsWholeInstance, Word, Place, as_sirw, Sirw, Code, place, Image, cell_word, named_frames, Simple, Wanted, simple_cells, actuals_of, made_of, AreNested, Texts, some_same, IsAmongPlaces, value_tag, no_sirw, block_few, LeadAll, found_low, Layout, Denotes, CellsAre, Found as FoundFrame, find, found_laid, two_below, PicturesBy}
 use Rattle.algol_meaning.specs.Instances as instances
 use Rattle.algol_meaning.specs.Value.{reference}
 use Rattle.b67_table.specs.Starting.{sirw_frame}

@@ -1,7 +1,8 @@
 -- A process goes on in its innermost part, after a store into a cell of one of its own instances: of a variable, whose word in its stack is another one, or
 -- of an array or an event, whose word stays.
 use Rattle.std.proofs.Common.{◌≡◌, refl, sym, ap, ◌∙◌, subst, ℕ, suc, ◌+◌, ◌<◌, ◌≤◌, ◌∷◌, length, Some, arith}
-use Rattle.b67_pictures.proofs.Prelude.{numbered, block_numbered, level_of, PProgram, Scopes, scopes_of, resume, is_evaluation, Instance, Process, Part, State, World, instance_at, with_process, BlockIsSeen, segment_of, InAnswer, IsOwn, place_at, Registers, Code, stack_limit, place, Image, frame, in_routine, Yields, Texts, context_of, ComesTo, Core, size, over, HasCore, newest, SlotsAre, CoreAt, weight, numbered_set, StayBelow, known_after, StandOn, frame_resumed, AreKnown, IsInReach, most_around, IsChained, Frame, FrameStands, run_level, AreLaid, steps_none, living_of, CanClimb, Actor, weight_of, text_in, level_in, most_in, names_in, same_weight, FrameStill, frame_still, still_low, put, length_put, stored_world, same_of, CellStore, EventsStay, task_stays, TheLaws, CriticalIs, TaskIs, Living}
+use Rattle.b67_list.proofs.Numbered.{numbered_set}
+use Rattle.b67_pictures.proofs.Prelude.{numbered, block_numbered, level_of, PProgram, Scopes, scopes_of, resume, is_evaluation, Instance, Process, Part, State, World, instance_at, with_process, BlockIsSeen, segment_of, InAnswer, IsOwn, place_at, Registers, Code, stack_limit, place, Image, frame, in_routine, Yields, Texts, context_of, ComesTo, Core, size, over, HasCore, newest, SlotsAre, CoreAt, weight, StayBelow, known_after, StandOn, frame_resumed, AreKnown, IsInReach, most_around, IsChained, Frame, FrameStands, run_level, AreLaid, steps_none, living_of, CanClimb, Actor, weight_of, text_in, level_in, most_in, names_in, same_weight, FrameStill, frame_still, still_low, put, length_put, stored_world, same_of, CellStore, EventsStay, task_stays, TheLaws, CriticalIs, TaskIs, Living}
 use Rattle.b67_scenes.specs.Reaches as reaching
 use Rattle.b67_scenes.proofs.Staying.{IsAsHeavy}
 use Rattle.b67_scenes.proofs.StoringFrames.{same_ancestors, as_heavy, Stored, known_stored, onward_from, frame_stored}

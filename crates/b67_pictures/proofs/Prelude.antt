@@ -55,7 +55,7 @@ pub use Rattle.algol_standing.specs.Skeleton.{Home, IsInSkeleton, Stack}
 pub use Rattle.algol_standing.specs.Worlds.{Awaits, IsAmongParts, IsNoBlock, IsOnPath, IsOwn, IsStanding, IsWholeInstance, WaitersAreListed, newest_own, referred_in_cells, skeleton, stack_of}
 pub use Rattle.b67_word.specs.Word.{Word}
 pub use Rattle.b67_word.specs.declared.Place.{Place}
-pub use Rattle.b67_control.proofs.ControlLaws.{as_pcw-pcw_word, as_sirw-other, irw_laws, kind_of-pcw_word, sirw_laws}
+pub use Rattle.b67_control.proofs.ControlLaws.{as_pcw_pcw_word, as_sirw_other, irw_laws, kind_of_pcw_word, sirw_laws}
 pub use Rattle.b67_control.specs.Control.{as_irw, as_pcw, as_sirw, event_word, pcw_word}
 pub use Rattle.b67_control.specs.Display.{place_at}
 pub use Rattle.b67_control.specs.declared.Descriptor.{Descriptor}
@@ -75,9 +75,9 @@ pub use Rattle.b67_segment.specs.declared.code.Code.{Code}
 pub use Rattle.b67_segment.specs.declared.code.Segment.{Segment}
 pub use Rattle.b67_store.specs.Store.{Row, Rows, Stacks, row_at, stack_at, stack_limit, with_word, word_at, words_of, words_or}
 pub use Rattle.b67_events.proofs.EventLaws.{one_event}
-pub use Rattle.b67_events.proofs.Listed.{same_place-self, same_place-true}
+pub use Rattle.b67_events.proofs.Listed.{same_place_self, same_place_true}
 pub use Rattle.b67_events.specs.Events.{Event, closed_from, event_changed, event_is_among, is_from, is_open, list_of, same_place, unlisted, waiters_at, with_state}
-pub use Rattle.b67_table.proofs.Lists.{get_within, numbered_within}
+pub use Rattle.b67_table.proofs.Lists.{numbered_within}
 pub use Rattle.b67_table.specs.Arrays.{as_indexed, index_in}
 pub use Rattle.b67_table.specs.Chains.{place, rebuilt}
 pub use Rattle.b67_table.specs.Effect.{gives}
@@ -126,7 +126,7 @@ pub use Rattle.b67_cores.specs.Cores.{Core, CoreStep, CoreSteps, HasCore, IsCore
 pub use Rattle.b67_cores.specs.Slots.{Known, SlotIs, SlotsAre, ValueIs, newest}
 pub use Rattle.b67_cores.specs.Stretches.{BlocksBegin, CellsAreMade, CoreAt, FragmentsArePerformed, StepsArePerformed, StepsComeToLimit, control_words}
 pub use Rattle.b67_faithful.proofs.Choices.{ReleasesNone, length_set_numbered}
-pub use Rattle.b67_faithful.proofs.Contradictions.{none_some, some_same, true_false}
+pub use Rattle.b67_faithful.proofs.Contradictions.{some_same}
 pub use Rattle.b67_faithful.specs.Faithful.{Faithful, HasFormats, IsShortSegment}
 pub use Rattle.b67_faithful.specs.Simulation.{AreFew}
 pub use Rattle.b67_faithful.specs.Weight.{part_weight, parts_weight, tokens_around, weight}
@@ -138,31 +138,29 @@ pub use Rattle.b67_rows.proofs.Cored.{has_now, others_have, registers_now, stack
 pub use Rattle.b67_rows.proofs.CriticalRow.{FirstDown, IsAmongPlaces}
 pub use Rattle.b67_rows.proofs.Described.{whole_array}
 pub use Rattle.b67_rows.proofs.Displays.{rebuilt_seen, shown, shown_top}
-pub use Rattle.b67_rows.proofs.EnterRow.{below_is}
 pub use Rattle.b67_rows.proofs.EntryRow.{lower_of}
 pub use Rattle.b67_rows.proofs.GivenWords.{ActualsAre, AreFit, Taken, are_fit, fit_many, none_wanted}
 pub use Rattle.b67_rows.proofs.Growing.{numbered_before, numbered_earlier, numbered_last}
 pub use Rattle.b67_rows.proofs.IndexRows.{with_one, without_two}
 pub use Rattle.b67_rows.proofs.IntrinsicRows.{enter_class, without_call}
 pub use Rattle.b67_rows.proofs.LeaveRow.{Leaves, after, leaves_here, left_has, left_others, outer_is}
-pub use Rattle.b67_rows.proofs.Numbers.{most_or_more, numbered_beyond, numbered_other, numbered_set, same_or_not}
+pub use Rattle.b67_rows.proofs.Numbers.{most_or_more, numbered_beyond, numbered_other, same_or_not}
 pub use Rattle.b67_rows.proofs.Parting.{IsSameBut, same_but}
 pub use Rattle.b67_rows.proofs.PlaceRow.{place_reached_class}
 pub use Rattle.b67_rows.proofs.Reaching.{Reaches, reached_through}
 pub use Rattle.b67_rows.proofs.ReachingRows.{value_reached_class, with_top}
 pub use Rattle.b67_rows.proofs.ReturnRow.{operand_given, return_action, return_class, return_raw}
 pub use Rattle.b67_rows.proofs.Rows.{action_is, action_not_plain, fault_not_plain, words_are}
-pub use Rattle.b67_rows.proofs.Segmented.{length_mapped, segment_low}
+pub use Rattle.b67_rows.proofs.Segmented.{segment_low}
 pub use Rattle.b67_rows.proofs.Slotted.{Top, top_slot}
 pub use Rattle.b67_rows.proofs.Spelled.{HasText, HaveTexts}
-pub use Rattle.b67_rows.proofs.StackWords.{get-behind, get-front}
+pub use Rattle.b67_rows.proofs.StackWords.{get_behind}
 pub use Rattle.b67_rows.proofs.StartRow.{begins_with, first_stack}
 pub use Rattle.b67_rows.proofs.StoreRow.{most_is}
 pub use Rattle.b67_rows.proofs.TopRow.{with_other}
 pub use Rattle.b67_rows.proofs.Touching.{NearCell}
 pub use Rattle.b67_rows.proofs.TouchingNames.{cell_named}
 pub use Rattle.b67_rows.proofs.TouchingOperators.{StandsNear}
-pub use Rattle.b67_rows.proofs.TurnRow.{not_below}
 pub use Rattle.b67_rows.proofs.Unmade.{makes, unmade}
 pub use Rattle.b67_rows.proofs.Words.{event_refers_nothing, no_pcw, no_sirw, pcw_refers_nothing, reference_read, value_tag}
 pub use Rattle.b67_rows.proofs.Yielding.{result_given}
@@ -190,7 +188,6 @@ pub use Rattle.b67_frames.proofs.OwnEvents.{OwnEvent, known_event}
 pub use Rattle.b67_frames.proofs.Resumed.{frame_resumed}
 pub use Rattle.b67_frames.proofs.Segmenting.{block_small}
 pub use Rattle.b67_frames.proofs.StaticParents.{IsParent}
-pub use Rattle.b67_frames.proofs.Subscripts.{index_below}
 pub use Rattle.b67_frames.proofs.TouchingCalls.{call_names, over_top, under_top}
 pub use Rattle.b67_frames.proofs.TouchingWords.{found_low, procedure_fits}
 pub use Rattle.b67_frames.proofs.VariablesGiven.{variable_leads}

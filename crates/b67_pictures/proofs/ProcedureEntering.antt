@@ -1,6 +1,7 @@
 -- A procedure is entered.
 use Rattle.std.proofs.Common.{◌≡◌, ◌⊎◌, inl, inr, refl, sym, ap, ◌∙◌, ℕ, ◌+◌, ◌*◌, ◌≤◌, ◌<◌, List, ◌∷◌, length, Some, None, true, false, arith}
-use Rattle.b67_pictures.proofs.Prelude.{Block, block_numbered, level_of, PProgram, PBody, Scopes, scopes_of, use_of, Sort, is_variable, is_formal, Kind, Named, Ask, enters, choice_of, given_cells, Given, block_of_sort, Cell, instance_at, ancestor, DeclaredArray, Shape, shape_of, BlockIsSeen, IsSeenAround, IsInner, is_procedure, segment_of, IsStanding, Word, as_sirw-other, as_pcw-pcw_word, kind_of-pcw_word, as_irw, as_sirw, pcw_word, Pcw, Couple, Code, get_within, frame, actuals_are_few, Simple, parameter_cells, parameter_wants, procedures, ShapeAgrees, IsVariable, IsDeclaredArray, IsDeclaredEvent, IsProcedure, yields_of, Context, decls_depth, stmts_depth, code_at, LiesNested, AreParameters, Texts, context_of, BodyAt, ProgramAt, BlocksStart, reference, mark, SlotIs, BlocksBegin, IsShortSegment, tokens_around, InReferred, enters_seen, AreFit, are_fit, fit_many, ActualsAre, length_mapped, makes, unmade, reference_read, controls_fit, AreGivenCells, given_are, simple_many, IsSeenMade, both_seen, up_complete, named_leads, event_leads, HasCells, variable_leads, named_from, ReferenceLeadsTo, LeadsToEvent, LeadsToVariable, IsNamed, IsInReach, ArePlaced, block_controls, controls_count, most_around, IsComplete, Calls, part_there, scene_placed, made_or_around, AbleActor, actor_of, choice_is, text_in, level_in, context_in, most_in, names_in, TheLaws, Does, ActualsLead}
+use Rattle.b67_list.proofs.Lists.{get_within, length_map}
+use Rattle.b67_pictures.proofs.Prelude.{Block, block_numbered, level_of, PProgram, PBody, Scopes, scopes_of, use_of, Sort, is_variable, is_formal, Kind, Named, Ask, enters, choice_of, given_cells, Given, block_of_sort, Cell, instance_at, ancestor, DeclaredArray, Shape, shape_of, BlockIsSeen, IsSeenAround, IsInner, is_procedure, segment_of, IsStanding, Word, as_sirw_other, as_pcw_pcw_word, kind_of_pcw_word, as_irw, as_sirw, pcw_word, Pcw, Couple, Code, frame, actuals_are_few, Simple, parameter_cells, parameter_wants, procedures, ShapeAgrees, IsVariable, IsDeclaredArray, IsDeclaredEvent, IsProcedure, yields_of, Context, decls_depth, stmts_depth, code_at, LiesNested, AreParameters, Texts, context_of, BodyAt, ProgramAt, BlocksStart, reference, mark, SlotIs, BlocksBegin, IsShortSegment, tokens_around, InReferred, enters_seen, AreFit, are_fit, fit_many, ActualsAre, makes, unmade, reference_read, controls_fit, AreGivenCells, given_are, simple_many, IsSeenMade, both_seen, up_complete, named_leads, event_leads, HasCells, variable_leads, named_from, ReferenceLeadsTo, LeadsToEvent, LeadsToVariable, IsNamed, IsInReach, ArePlaced, block_controls, controls_count, most_around, IsComplete, Calls, part_there, scene_placed, made_or_around, AbleActor, actor_of, choice_is, text_in, level_in, context_in, most_in, names_in, TheLaws, Does, ActualsLead}
 use Rattle.algol_meaning.specs.Rest.{entered}
 use Rattle.algol_meaning.specs.World.{procedure}
 use Rattle.algol_meaning.specs.Choice.{entered_procedure}
@@ -127,7 +128,7 @@ module _ (tree : PProgram) (code : Code) (program : ProgramAt code tree) (nested
         (omega (arith, named.index_is, get_within (procedures (block_numbered sc.blocks u).decls) named.number named.declared named.there, (nested.nested.each u u_known).few))
 
     no_sirw : as_sirw (pcw_word c) ≡ None
-    no_sirw = as_sirw-other (pcw_word c) (λ k. let other = sym (kind_of-pcw_word c fits) ∙ k in cc)
+    no_sirw = as_sirw_other (pcw_word c) (λ k. let other = sym (kind_of_pcw_word c fits) ∙ k in cc)
 
     -- ---- what is given
 
@@ -138,7 +139,7 @@ module _ (tree : PProgram) (code : Code) (program : ProgramAt code tree) (nested
     fit = are_fit sc context (parameter_wants sc callee) gs at.fit
 
     given_many : length gs ≡ length (parameter_cells sc b)
-    given_many = fit_many sc context fit ∙ length_mapped (λ (c : Simple). c.wanted) (parameter_cells sc b)
+    given_many = fit_many sc context fit ∙ length_map (λ (c : Simple). c.wanted) (parameter_cells sc b)
 
     abbrev calls : Calls tree code texts nested short (actor_of s) (parameter_wants sc callee) gs (reference couple) a.1 a.2 h callee 0
     calls =
@@ -158,9 +159,9 @@ module _ (tree : PProgram) (code : Code) (program : ProgramAt code tree) (nested
           segment = segment_there.0;
           there = segment_there.1;
           spells = program.spells (segment_of sc.blocks callee) segment_there.0 segment_there.1;
-          leads = λ m y is. procedure_leads code img core a.1 y m c linked.at couple.level couple.index (reads y is) (pcw_word c) shown entry_lies no_sirw (as_pcw-pcw_word c fits);
+          leads = λ m y is. procedure_leads code img core a.1 y m c linked.at couple.level couple.index (reads y is) (pcw_word c) shown entry_lies no_sirw (as_pcw_pcw_word c fits);
           calls = λ y is. procedure_calls code img core a.1 y (record { entered = false; stack = 0; displacement = 0; df = 0 }) c linked.at couple.level couple.index (reads y is)
-              (pcw_word c) shown entry_lies no_sirw (as_pcw-pcw_word c fits);
+              (pcw_word c) shown entry_lies no_sirw (as_pcw_pcw_word c fits);
         }
 
     -- ---- its code

@@ -1,6 +1,8 @@
 -- A process is started, or there are as many as there may be.
 use Rattle.std.proofs.Common.{◌≡◌, ◌≢◌, ◌⊎◌, inl, inr, refl, sym, ap, ◌∙◌, subst, ℕ, ◌+◌, ◌<◌, ◌≤◌, List, [], ◌∷◌, ◌++◌, length, Option, Some, Bool, false, Ok, arith, length-append}
-use Rattle.b67_pictures.proofs.Prelude.{if◌then◌else◌, numbered, set_numbered, block_numbered, PProgram, Scopes, scopes_of, Sort, Named, Ask, starts, resume, Choice, choice, choice_of, home, given_cells, task_of, own_instances, newest_first, first_on_path, referred_by, referred_by_task, fresh_cells, Given, done, block_of_sort, Reference, Cell, Instance, Process, Part, able, World, starts_lie_on_paths, path_first, IsOk, referred_by_start, IsInSkeleton, newest_own, skeleton, IsOnPath, IsWholeInstance, Word, Place, Pcw, Registers, Start, Code, stack_limit, place, failed, Image, most_processes, operator_at, parameter_wants, simple_cells, Texts, StartsAt, given_slots, start_begun, Core, size, HasCore, with_core, length_set_numbered, at_operator, has_now, others_have, system_stays, below_is, numbered_before, numbered_earlier, without_call, enter_class, most_or_more, numbered_set, action_not_plain, fault_not_plain, action_is, begins_with, first_stack, not_below, makes, unmade, no_elements, no_rows, arrays_joined, events_joined, HasFacts, facts_of, StandOn, cells_length, Layout, CellsAre, AreLaid, all_laid, IsEntered, operator_there, LeavesAlone, AbleActor, actor_of, gives_within, faults_so, choice_is, faulted, Refers, started_world, started_layout, rows_before, text_in, level_in, context_in, most_in, events_before, TheLaws, Living, Pictures, PicturesBy, Does, gave, failed_by}
+use Rattle.b67_list.proofs.Numbered.{numbered_set}
+use Rattle.b67_list.proofs.Numbers.{ltb_less, ltb_not_less}
+use Rattle.b67_pictures.proofs.Prelude.{if◌then◌else◌, numbered, set_numbered, block_numbered, PProgram, Scopes, scopes_of, Sort, Named, Ask, starts, resume, Choice, choice, choice_of, home, given_cells, task_of, own_instances, newest_first, first_on_path, referred_by, referred_by_task, fresh_cells, Given, done, block_of_sort, Reference, Cell, Instance, Process, Part, able, World, starts_lie_on_paths, path_first, IsOk, referred_by_start, IsInSkeleton, newest_own, skeleton, IsOnPath, IsWholeInstance, Word, Place, Pcw, Registers, Start, Code, stack_limit, place, failed, Image, most_processes, operator_at, parameter_wants, simple_cells, Texts, StartsAt, given_slots, start_begun, Core, size, HasCore, with_core, length_set_numbered, at_operator, has_now, others_have, system_stays, numbered_before, numbered_earlier, without_call, enter_class, most_or_more, action_not_plain, fault_not_plain, action_is, begins_with, first_stack, makes, unmade, no_elements, no_rows, arrays_joined, events_joined, HasFacts, facts_of, StandOn, cells_length, Layout, CellsAre, AreLaid, all_laid, IsEntered, operator_there, LeavesAlone, AbleActor, actor_of, gives_within, faults_so, choice_is, faulted, Refers, started_world, started_layout, rows_before, text_in, level_in, context_in, most_in, events_before, TheLaws, Living, Pictures, PicturesBy, Does, gave, failed_by}
 use Rattle.std.specs.Prelude.{nat_lt}
 use Rattle.b67_num.specs.declared.FaultKind.TheVariants.{ProcessLimit}
 use Rattle.algol_meaning.specs.declared.TheConstants.{MOST_STARTED}
@@ -152,7 +154,7 @@ module _ (tree : PProgram) (code : Code) (texts : Texts) (laws : TheLaws) (actor
           chosen : choice sc w p ≡ choices.fails sc w p q part outer ProcessLimit
           chosen =
               chosen_by
-              ∙ ap (λ (b : Bool). if b then choices.fails sc w p q part outer ProcessLimit else choices.starts sc w p q part outer callee parent given tasked) (below_is MOST_STARTED (length w.processes) (omega (arith, full)))
+              ∙ ap (λ (b : Bool). if b then choices.fails sc w p q part outer ProcessLimit else choices.starts sc w p q part outer callee parent given tasked) (ltb_less MOST_STARTED (length w.processes) (omega (arith, full)))
 
       -- ---- a process is begun
 
@@ -324,7 +326,7 @@ module _ (tree : PProgram) (code : Code) (texts : Texts) (laws : TheLaws) (actor
           chosen : choice sc w p ≡ choices.starts sc w p q part outer callee parent given tasked
           chosen =
               chosen_by
-              ∙ ap (λ (t : Bool). if t then choices.fails sc w p q part outer ProcessLimit else choices.starts sc w p q part outer callee parent given tasked) (not_below MOST_STARTED (length w.processes) (omega (arith, room)))
+              ∙ ap (λ (t : Bool). if t then choices.fails sc w p q part outer ProcessLimit else choices.starts sc w p q part outer callee parent given tasked) (ltb_not_less MOST_STARTED (length w.processes) (omega (arith, room)))
 
           same : (choice sc w p).world ≡ world_after
           same = ap (λ (c : Choice). c.world) chosen ∙ same_world

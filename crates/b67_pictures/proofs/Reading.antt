@@ -1,6 +1,6 @@
 -- A read of a variable, or of the variable that a parameter by name stands for.
 use Rattle.std.proofs.Common.{◌≡◌, refl, ap, ◌∙◌, ℕ, ◌+◌, List, ◌∷◌, length, Option, Some, Ok, arith}
-use Rattle.b67_pictures.proofs.Prelude.{Read, PProgram, Scopes, scopes_of, Named, Ask, reads, choice_of, read_of, goes, value, Value, Cell, instance_at, cell_at, value_in, BlockIsSeen, IsSeenAround, IsInner, Word, Place, Code, place, couple_cell, operator_at, IsVariable, HasKind, AreNested, Texts, ActionAt, operand, Core, IsCore, with_core, ValueIs, CoreAt, reads_seen, at_operator, Reaches, reached_through, with_top, value_reached_class, action_not_plain, action_is, makes, unmade, value_tag, no_sirw, no_pcw, named_from, Found, operator_there, NameHome, ActualNamed, NameStands, for_variable, for_actual, name_stands, AbleActor, actor_of, choice_is, text_in, level_in, context_in, most_in, names_in, TheLaws, VariableHome, Does}
+use Rattle.b67_pictures.proofs.Prelude.{Read, PProgram, Scopes, scopes_of, Named, Ask, reads, choice_of, read_of, goes, value, Value, Cell, instance_at, cell_at, value_in, BlockIsSeen, IsSeenAround, IsInner, Word, Place, Code, place, couple_cell, operator_at, IsVariable, HasKind, AreNested, Texts, operand, Core, IsCore, with_core, ValueIs, CoreAt, reads_seen, at_operator, Reaches, reached_through, with_top, value_reached_class, action_not_plain, action_is, makes, unmade, value_tag, no_sirw, no_pcw, named_from, Found, operator_there, NameHome, ActualNamed, NameStands, for_variable, for_actual, name_stands, AbleActor, actor_of, choice_is, text_in, level_in, names_in, TheLaws, VariableHome, Does}
 use Rattle.b67_ops.specs.declared.Operator.TheVariants as ops
 use Rattle.b67_templates.specs.Cells.{IsFormalName}
 use Rattle.b67_table.specs.declared.Cell as cells
@@ -18,9 +18,6 @@ module _ (tree : PProgram) (code : Code) (texts : Texts) (laws : TheLaws) (actor
 
   abbrev sc : Scopes
   sc = scopes_of tree
-
-  abbrev IsAction : Named → Type 0
-  IsAction n = ActionAt sc (context_in tree code texts w part s.stands.frame.gives) (text_in tree texts w part) (level_in tree w part) (most_in tree w part) (reads n) s.stands.pc s.stands.slots
 
   module _ (n : Named) (head : Head tree code texts actor (reads n)) where
     open head use {asks, action as a, answered}

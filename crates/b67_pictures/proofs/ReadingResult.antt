@@ -1,7 +1,8 @@
 -- The read of a procedure's result, at its end.
 use Rattle.std.proofs.Common.{◌≡◌, refl, sym, ap, ◌∙◌, subst, ℕ, suc, ◌+◌, List, [], ◌∷◌, ◌++◌, length, Option, Some, None, Bool, true, false, Ok, arith}
-use Rattle.b67_pictures.proofs.Prelude.{if◌then◌else◌, slice_get, Read, Block, block_numbered, PProgram, Scopes, scopes_of, same_name, Kind, Ask, reads_result, choice_of, goes, is_evaluation, value, Cell, simple, NamedCell, Instance, instance_at, or_no_instance, cell_at, cell_in, value_in, Word, Code, word_at, place, display_at, operator_at, Simple, parameter_cells, result_cells_of, variables, simple_cells, yields_of, AreNested, Texts, operand, Core, IsCore, with_core, CoreAt, at_operator, with_top, action_not_plain, action_is, get-front, get-behind, makes, unmade, value_tag, no_sirw, no_pcw, result_given, begins_core, owned_frame, asks_as_own, frame_gives, Owned, operator_there, shown_frame, AbleActor, actor_of, choice_is, text_in, level_in, context_in, TheLaws, Does}
-use Rattle.algol_meaning.proofs.Naming.{same_name-itself}
+use Rattle.algol_tree.proofs.Names.{same_name_itself}
+use Rattle.b67_list.proofs.Lists.{get_front}
+use Rattle.b67_pictures.proofs.Prelude.{if◌then◌else◌, slice_get, Read, Block, block_numbered, PProgram, Scopes, scopes_of, same_name, Kind, Ask, reads_result, choice_of, goes, is_evaluation, value, Cell, simple, NamedCell, Instance, instance_at, or_no_instance, cell_at, cell_in, value_in, Word, Code, word_at, place, display_at, operator_at, Simple, parameter_cells, result_cells_of, variables, simple_cells, yields_of, AreNested, Texts, operand, Core, IsCore, with_core, CoreAt, at_operator, with_top, action_not_plain, action_is, get_behind, makes, unmade, value_tag, no_sirw, no_pcw, result_given, begins_core, owned_frame, asks_as_own, frame_gives, Owned, operator_there, shown_frame, AbleActor, actor_of, choice_is, text_in, level_in, context_in, TheLaws, Does}
 use Rattle.b67_ops.specs.declared.Operator.TheVariants as ops
 use Rattle.b67_table.specs.Effect as effects
 use Rattle.b67_table.specs.Outcome as outcomes
@@ -34,7 +35,7 @@ result_found sc b kind apart typed =
     ∙ found_behind 0 (parameter_cells sc b) (result_cells_of b.result b.name ++ variables b.decls) b.name (record { number = far; cell = record { name = b.name; wanted = wants.value kind } }) apart
     (ap (λ (n : ℕ). found_from n (result_cells_of b.result b.name ++ variables b.decls) b.name) (let same : 0 + far ≡ far = omega arith in same)
     ∙ ap (λ (o : Option Kind). found_from far (result_cells_of o b.name ++ variables b.decls) b.name) typed
-    ∙ ap (λ (t : Bool). if t then Some (record { number = far; cell = record { name = b.name; wanted = wants.value kind } }) else found_from (far + 1) (variables b.decls) b.name) (same_name-itself b.name))
+    ∙ ap (λ (t : Bool). if t then Some (record { number = far; cell = record { name = b.name; wanted = wants.value kind } }) else found_from (far + 1) (variables b.decls) b.name) (same_name_itself b.name))
 
 module _ (tree : PProgram) (code : Code) (texts : Texts) (nested : AreNested (scopes_of tree)) (laws : TheLaws) (actor : AbleActor tree code texts) where
   open actor use {w, lay, img, p, q, part, outer, core, s}
@@ -108,12 +109,12 @@ module _ (tree : PProgram) (code : Code) (texts : Texts) (nested : AreNested (sc
         base = length s.stands.frame.lower
 
         cells_lie : slice_get s.stands.frame.cells c.far ≡ Some c.word
-        cells_lie = ap (λ (ws : List Word). slice_get ws c.far) own_frame.framed.cells_is ∙ get-front own_frame.framed.values _ c.far c.word c.lies
+        cells_lie = ap (λ (ws : List Word). slice_get ws c.far) own_frame.framed.cells_is ∙ get_front own_frame.framed.values _ c.far c.word c.lies
 
         below_lies : slice_get core.below (base + at.couple.index) ≡ Some c.word
         below_lies =
             ap (λ (ws : List Word). slice_get ws (base + at.couple.index)) s.stands.frame.words_are
-            ∙ get-behind s.stands.frame.lower (s.stands.frame.mark ∷ s.stands.frame.control ∷ s.stands.frame.cells) (suc (suc c.far)) (base + at.couple.index) (omega (arith, index_is, c.number))
+            ∙ get_behind s.stands.frame.lower (s.stands.frame.mark ∷ s.stands.frame.control ∷ s.stands.frame.cells) (suc (suc c.far)) (base + at.couple.index) (omega (arith, index_is, c.number))
             ∙ cells_lie
 
         lies : word_at img.stacks (record { stack = p; at = base + at.couple.index }) ≡ Some c.word

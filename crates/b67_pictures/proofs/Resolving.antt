@@ -1,7 +1,7 @@
 -- A parameter by name is resolved. Of one that stands for a variable, the reference to the variable's cell comes in place of that to the parameter's.
 -- An actual that is not subscripted has no place: that is a fault.
 use Rattle.std.proofs.Common.{◌≡◌, inl, refl, sym, ap, ◌∙◌, subst, ℕ, ◌+◌, ◌≤◌, List, [], ◌∷◌, length, Option, Some, None, Bool, true, false, Ok, arith}
-use Rattle.b67_pictures.proofs.Prelude.{if◌then◌else◌, NotAVariable, Fault, PProgram, Scopes, scopes_of, Kind, Named, Ask, resolves, ask, located_of, Choice, choice, choice_of, resolved_of, is_subscripted, opens, fails, settle_actual_place, Cell, name_place, World, instance_at, BlockIsSeen, IsSeenAround, IsInner, Word, Place, as_pcw-pcw_word, as_irw, as_sirw, pcw_word, Irw, Pcw, Couple, Placed, Code, place, failed, frame, display_at, cell_word, irw_or_sirw, cell_of, operator_at, AreNested, Texts, Slot, reference as reference_slot, descriptor, variable, Core, with_core, Known, newest, CoreAt, array_asked, array_seen, at_operator, place_reached_class, Reaches, reached_through, action_not_plain, fault_not_plain, action_is, Top, top_slot, with_other, makes, unmade, value_tag, no_sirw, no_pcw, pcw_refers_nothing, reference_read, LeadsToVariable, IsInReach, routine_of, Found, operator_there, NameCellHome, NameHome, ActualNamed, NameStands, for_variable, for_actual, name_stands, AbleActor, Actor, actor_of, faults_so, choice_is, faulted, text_in, level_in, context_in, most_in, TheLaws, VariableHome, Pictures, Does, failed_by}
+use Rattle.b67_pictures.proofs.Prelude.{if◌then◌else◌, NotAVariable, Fault, PProgram, Scopes, scopes_of, Kind, Named, Ask, resolves, ask, located_of, Choice, choice, choice_of, resolved_of, is_subscripted, opens, fails, settle_actual_place, Cell, name_place, World, instance_at, BlockIsSeen, IsSeenAround, IsInner, Word, Place, as_pcw_pcw_word, as_irw, as_sirw, pcw_word, Irw, Pcw, Couple, Placed, Code, place, failed, frame, display_at, cell_word, irw_or_sirw, cell_of, operator_at, AreNested, Texts, Slot, reference as reference_slot, descriptor, variable, Core, with_core, Known, newest, CoreAt, array_asked, array_seen, at_operator, place_reached_class, Reaches, reached_through, action_not_plain, fault_not_plain, action_is, Top, top_slot, with_other, makes, unmade, value_tag, no_sirw, no_pcw, pcw_refers_nothing, reference_read, LeadsToVariable, IsInReach, routine_of, Found, operator_there, NameCellHome, NameHome, ActualNamed, NameStands, for_variable, for_actual, name_stands, AbleActor, Actor, actor_of, faults_so, choice_is, faulted, text_in, level_in, context_in, most_in, TheLaws, VariableHome, Pictures, Does, failed_by}
 use Rattle.algol_meaning.specs.Rest as rests
 use Rattle.algol_meaning.specs.Rest.{place as given_place}
 use Rattle.b67_deeds.specs.declared.Letter.TheVariants.{Resolve}
@@ -198,7 +198,7 @@ module _ (tree : PProgram) (code : Code) (texts : Texts) (nested : AreNested (sc
       table_is =
           faults_so code img p NotAVariable
           (no_place_raw code (at_operator s.has there) f.top.word f.top.words_below f.top.is first second (named_on_top f h.home.at h.home.shown) (pcw_word control) control_reached control
-          (as_pcw-pcw_word control h.actual.fits) (sym (same_place h.a.actual) ∙ no_place))
+          (as_pcw_pcw_word control h.actual.fits) (sym (same_place h.a.actual) ∙ no_place))
 
       abbrev failed_world : World
       failed_world = record w { fault = Some (record { kind = NotAVariable; process = p }) }

@@ -1,9 +1,9 @@
 -- Two references lead to one event exactly where the two events lie at one place: so lists of events are searched alike in a world and in its image.
 use Rattle.std.proofs.Common.{◌≡◌, refl, sym, ap, ◌∙◌, subst, ℕ, ◌+◌, List, [], ◌∷◌, Option, Some, Bool, true, false, eqb}
-use Rattle.b67_pictures.proofs.Prelude.{eqb-true, eq-eqb, if◌then◌else◌, slice_get, ◌||◌, block_numbered, PProgram, Scopes, scopes_of, same_name, same_reference, Reference, World, instance_at, Place, Code, same_place-true, same_place-self, same_place, place, Image, made_of, made_base, Texts, some_same, HasFacts, Layout, HasEvent, IsEventAt, PicturesBy, ListIs}
+use Rattle.algol_tree.proofs.Names.{same_name_is, same_name_itself}
+use Rattle.b67_pictures.proofs.Prelude.{eqb-true, eq-eqb, if◌then◌else◌, slice_get, ◌||◌, block_numbered, PProgram, Scopes, scopes_of, same_name, same_reference, Reference, World, instance_at, Place, Code, same_place_true, same_place_self, same_place, place, Image, made_of, made_base, Texts, some_same, HasFacts, Layout, HasEvent, IsEventAt, PicturesBy, ListIs}
 use Rattle.std.proofs.lemmas.Bool.{and_parts, and_from}
 use Rattle.algol_meaning.specs.Events as meant
-use Rattle.algol_laws.proofs.Cells.{same_name_is, same_name_refl}
 use Rattle.b67_events.specs.Events as kernel
 use Rattle.b67_templates.specs.Cells.{FoundMade, made_name}
 use Rattle.b67_pictures.proofs.EventMoving.{IsOwned, has_here, declares_here, cell_here}
@@ -39,15 +39,15 @@ module _ (tree : PProgram) (code : Code) (texts : Texts) (w : World) (lay : Layo
     forth e =
         let parts = and_parts (eqb s.instance r.instance) (same_name s.name r.name) e in
         let same : s ≡ r = ap (λ (n : ℕ). record { instance = n; name = s.name }) (eqb-true s.instance r.instance parts.0) ∙ ap (λ (n : List ℕ). record { instance = r.instance; name = n }) (same_name_is s.name r.name parts.1) in
-        same_place-self there at (one_place sc w lay r there at (subst (λ (x : Reference). IsEventAt sc w lay x there) same lies_there) lies)
+        same_place_self there at (one_place sc w lay r there at (subst (λ (x : Reference). IsEventAt sc w lay x there) same lies_there) lies)
 
     back : same_place there at ≡ true → same_reference s r ≡ true
     back e =
-        let same : there ≡ at = same_place-true there at e in
+        let same : there ≡ at = same_place_true there at e in
         let one =
         by.events.apart s.instance r.instance lies_there.made.number lies.made.number (cell_here tree code texts w lay img by facts s there lies_there owned) (cell_here tree code texts w lay img by facts r at lies o) at
         (subst (λ (z : Place). HasEvent (scopes_of tree) w lay s.instance lies_there.made.number (cell_here tree code texts w lay img by facts s there lies_there owned) z) same (has_here tree code texts w lay img by facts s there lies_there owned)) (has_here tree code texts w lay img by facts r at lies o) in
-        and_from (eqb s.instance r.instance) (same_name s.name r.name) (eq-eqb s.instance r.instance one.0) (ap (λ (n : List ℕ). same_name s.name n) (sym (names one.0 one.1)) ∙ same_name_refl s.name)
+        and_from (eqb s.instance r.instance) (same_name s.name r.name) (eq-eqb s.instance r.instance one.0) (ap (λ (n : List ℕ). same_name s.name n) (sym (names one.0 one.1)) ∙ same_name_itself s.name)
       where
         names : s.instance ≡ r.instance → lies_there.made.number ≡ lies.made.number → s.name ≡ r.name
         names instance_is number_is =

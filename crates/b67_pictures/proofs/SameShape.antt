@@ -1,7 +1,8 @@
 -- Worlds that differ in the states and the woken numbers of their processes, and in what their events are: what stands in the one stands in the
 -- other, and the same paths lead from it.
 use Rattle.std.proofs.Common.{◌≡◌, refl, sym, ap, ◌∙◌, subst, inl, inr, ℕ, zero, suc, ◌+◌, ◌≤◌, List, [], ◌∷◌, ◌++◌, Option, Some, None, Bool, true, false}
-use Rattle.b67_pictures.proofs.Prelude.{slice_get, slice_set, map, if◌then◌else◌, numbered, set_numbered, EventState, IsListed, block_numbered, level_of, Scopes, same_name, referred_in, own_instances, set_event, Reference, Cell, simple, event, array, named, NamedCell, Instance, Part, Process, State, able, lives, World, instance_at, or_no_instance, ancestor, cell_in, cell_at, cells_with, set_able, set_all_able, CellLow, CellsLow, InstanceLow, WorldLow, IsLow, Stack, Home, IsInSkeleton, referred_in_cells, IsAmongParts, IsStanding, IsOnPath, stack_of, skeleton, OUTER_LEVEL, some_same, none_some, HasFacts, IsStandingOrNone, LivesIn, CanClimb, process_is, EventsStay}
+use Rattle.b67_list.proofs.Numbers.{none_some}
+use Rattle.b67_pictures.proofs.Prelude.{slice_get, slice_set, map, if◌then◌else◌, numbered, set_numbered, EventState, IsListed, block_numbered, level_of, Scopes, same_name, referred_in, own_instances, set_event, Reference, Cell, simple, event, array, named, NamedCell, Instance, Part, Process, State, able, lives, World, instance_at, or_no_instance, ancestor, cell_in, cell_at, cells_with, set_able, set_all_able, CellLow, CellsLow, InstanceLow, WorldLow, IsLow, Stack, Home, IsInSkeleton, referred_in_cells, IsAmongParts, IsStanding, IsOnPath, stack_of, skeleton, OUTER_LEVEL, some_same, HasFacts, IsStandingOrNone, LivesIn, CanClimb, process_is, EventsStay}
 use Rattle.algol_meaning.specs.Value.{reference}
 use Rattle.algol_standing.specs.Skeleton.{Skeleton, SkeletonStands, OnPath}
 use Rattle.algol_standing.specs.Worlds.{parent_in, held_by, home_of}

@@ -1,6 +1,7 @@
 -- CASE: the choice of a statement.
 use Rattle.std.proofs.Common.{◌≡◌, refl, sym, ap, ◌∙◌, subst, ℕ, zero, suc, ◌+◌, ◌*◌, ◌<◌, ◌≤◌, List, [], ◌∷◌, length, Some, None, Ok, Bool, true, false, All, arith, length-append, ℤ, ◌⊎◌, inl, inr}
-use Rattle.b67_pictures.proofs.Prelude.{recursion_from_All, pos, slice_get, if◌then◌else◌, ◌&&◌, PProgram, PStmts, Scopes, scopes_of, Ask, selects, Choice, choice, choice_of, goes, fails, done, Value, number, truth, whole_of, Operator, Placed, Spells, Code, Segment, failed, segment_limit, end_of_code, operator_at, stmts_count, HasKind, Texts, AreNumbers, Core, with_core, at_operator, below_is, without_call, enter_class, action_not_plain, action_is, fault_not_plain, not_below, makes, unmade, wholes_of, IsCall, call, operator_there, AbleActor, actor_of, choice_is, faults_so, faulted, text_in, level_in, TheLaws, Pictures, Does, failed_by}
+use Rattle.b67_list.proofs.Numbers.{ltb_less, ltb_not_less}
+use Rattle.b67_pictures.proofs.Prelude.{recursion_from_All, pos, slice_get, if◌then◌else◌, ◌&&◌, PProgram, PStmts, Scopes, scopes_of, Ask, selects, Choice, choice, choice_of, goes, fails, done, Value, number, truth, whole_of, Operator, Placed, Spells, Code, Segment, failed, segment_limit, end_of_code, operator_at, stmts_count, HasKind, Texts, AreNumbers, Core, with_core, at_operator, without_call, enter_class, action_not_plain, action_is, fault_not_plain, makes, unmade, wholes_of, IsCall, call, operator_there, AbleActor, actor_of, choice_is, faults_so, faulted, text_in, level_in, TheLaws, Pictures, Does, failed_by}
 use Rattle.std.specs.Prelude.{negsuc, int_le, int_lt}
 use Rattle.std.specs.List.{AllByRecursion}
 use Rattle.std.proofs.lemmas.Int.{ints}
@@ -13,8 +14,8 @@ use Rattle.b67_ops.specs.declared.Operator.TheVariants as ops
 use Rattle.b67_ops.specs.declared.PlainKind.TheVariants as kinds
 use Rattle.b67_ops.specs.declared.intrinsic.Intrinsic.TheVariants.{Select}
 use Rattle.b67_segment.specs.Operators.{text, StandsAmong}
-use Rattle.b67_segment.proofs.Fetches.{length-syllables}
-use Rattle.b67_segment.proofs.Texts.{text-append}
+use Rattle.b67_segment.proofs.Fetches.{length_syllables}
+use Rattle.b67_segment.proofs.Texts.{text_append}
 use Rattle.b67_table.specs.Effect as effects
 use Rattle.b67_table.specs.Intrinsics.{case_in}
 use Rattle.b67_table.specs.Outcome as outcomes
@@ -38,9 +39,9 @@ pub within_segment : (ps : List Placed) (at level : ℕ) (op : Operator) (next :
 within_segment ps at level op next segment stands spells small =
     let long : length (text 0 ps) ≡ length (text 0 stands.before) + length (text (0 + length (text 0 stands.before)) (record { level = level; operator = op } ∷ stands.after)) =
     ap (λ (os : List Placed). length (text 0 os)) stands.parts
-    ∙ ap length (text-append 0 stands.before (record { level = level; operator = op } ∷ stands.after))
+    ∙ ap length (text_append 0 stands.before (record { level = level; operator = op } ∷ stands.after))
     ∙ length-append (text 0 stands.before) (text (0 + length (text 0 stands.before)) (record { level = level; operator = op } ∷ stands.after)) in
-    let spelled : 6 * length segment.words ≡ length (text 0 ps) = sym (length-syllables segment.words) ∙ ap length spells.code in
+    let spelled : 6 * length segment.words ≡ length (text 0 ps) = sym (length_syllables segment.words) ∙ ap length spells.code in
     omega (arith, long, spelled, small, stands.at_is)
 
 -- ---- the number of a statement
@@ -86,8 +87,8 @@ case_of (pos i) ss = by_order (below_or_not i (stmts_count ss))
   where
     by_order : (i < stmts_count ss) ⊎ (stmts_count ss ≤ i) → IsCase (pos i) ss
     by_order (inl h) =
-        one_of i refl h (exists_is (pos i) ss ∙ within_low i (stmts_count ss) h) (ap (λ (b : Bool). if b then Some i else None) (below_is i (stmts_count ss) h))
-    by_order (inr h) = none_of (exists_is (pos i) ss ∙ within_high i (stmts_count ss) h) (ap (λ (b : Bool). if b then Some i else None) (not_below i (stmts_count ss) h))
+        one_of i refl h (exists_is (pos i) ss ∙ within_low i (stmts_count ss) h) (ap (λ (b : Bool). if b then Some i else None) (ltb_less i (stmts_count ss) h))
+    by_order (inr h) = none_of (exists_is (pos i) ss ∙ within_high i (stmts_count ss) h) (ap (λ (b : Bool). if b then Some i else None) (ltb_not_less i (stmts_count ss) h))
 
 number_is : (v : Value) (z : ℤ) → HasKind types.Number v → whole_of v ≡ z → v ≡ number z
 number_is (number y) z fits e = ap number e

@@ -1,7 +1,8 @@
 -- A wait for several events: the process goes on by the first that has happened, or waits for all of them; and a process that was released goes on by
 -- its woken number.
 use Rattle.std.proofs.Common.{◌≡◌, refl, sym, ap, ◌∙◌, subst, ℕ, zero, suc, ◌+◌, ◌<◌, ◌≤◌, pos, List, [], ◌∷◌, length, Option, Some, None, Bool, true, false, Ok, arith, lit≤}
-use Rattle.b67_pictures.proofs.Prelude.{if◌then◌else◌, map, reverse, numbered, set_numbered, Letter, PProgram, Scopes, scopes_of, Named, Ask, event_deed, ask, resume, Choice, choice, choice_of, wakes_or_waits, value, number, Reference, Process, World, followed, Word, Place, Couple, Placed, Code, Image, woken_number, frame, cell_place, plain, operator_at, ProcessState, letter, letter_of, AreNested, Texts, ActsOnAt, ComesTo, Slot, operand, intrinsic, mark, Core, with_core, SlotsAre, CoreAt, length_set_numbered, some_same, IsAsked, at_operator, enter_class, without_call, numbered_set, numbered_other, action_not_plain, action_is, makes, unmade, facts_of, named_from, IsEntered, entered_with, operator_there, idle_nowhere, AbleActor, actor_of, state_there, process_is, choice_is, gives_within, text_in, level_in, context_in, most_in, TheLaws, number_is, number_by, Pictures, Does, gave}
+use Rattle.b67_list.proofs.Numbered.{numbered_set}
+use Rattle.b67_pictures.proofs.Prelude.{if◌then◌else◌, map, reverse, numbered, set_numbered, Letter, PProgram, Scopes, scopes_of, Named, Ask, event_deed, ask, resume, Choice, choice, choice_of, wakes_or_waits, value, number, Reference, Process, World, followed, Word, Place, Couple, Placed, Code, Image, woken_number, frame, cell_place, plain, operator_at, ProcessState, letter, letter_of, AreNested, Texts, ActsOnAt, ComesTo, Slot, operand, intrinsic, mark, Core, with_core, SlotsAre, CoreAt, length_set_numbered, some_same, IsAsked, at_operator, enter_class, without_call, numbered_other, action_not_plain, action_is, makes, unmade, facts_of, named_from, IsEntered, entered_with, operator_there, idle_nowhere, AbleActor, actor_of, state_there, process_is, choice_is, gives_within, text_in, level_in, context_in, most_in, TheLaws, number_is, number_by, Pictures, Does, gave}
 use Rattle.std.proofs.lemmas.List.{length-map}
 use Rattle.b67_limits.specs.declared.TheConstants.{MOST_EVENTS}
 use Rattle.b67_num.specs.Whole.{most}
@@ -21,7 +22,7 @@ use Rattle.b67_table.specs.PrivateRows as rows
 use Rattle.b67_table.specs.Table.{table}
 use Rattle.b67_templates.specs.Fragments.{IsWholeNumber}
 use Rattle.b67_standing.specs.Standing.{references}
-use Rattle.b67_standing.proofs.OnEvents.{couples-length, acted_on-length}
+use Rattle.b67_standing.proofs.OnEvents.{couples_length, acted_on_length}
 use Rattle.b67_frames.proofs.SeveralRows.{number_core, woken_raw, gone_raw, waiting_raw}
 use Rattle.b67_scenes.proofs.SeveralHomes.{Referred, referred, all_targets, OnSeveral, on_several}
 use Rattle.b67_pictures.proofs.InFrame.{does_in_frame, does_numbered}
@@ -93,7 +94,7 @@ module _ (tree : PProgram) (code : Code) (texts : Texts) (nested : AreNested (sc
         (entered_with tree code texts (actor_of s) WaitAny (references cs (intrinsic WaitAny ∷ mark ∷ below)) below acts_at.lies g.lying)
 
     as_many : length words ≡ length ns
-    as_many = length-map cs rows.reference ∙ couples-length sc _ ns cs acts_at.are_events
+    as_many = length-map cs rows.reference ∙ couples_length sc _ ns cs acts_at.are_events
 
     some : 1 ≤ length words
     some = omega (arith, as_many, (acts_at.many).0)
@@ -126,7 +127,7 @@ module _ (tree : PProgram) (code : Code) (texts : Texts) (nested : AreNested (sc
         }
 
     few_slots : (n : ℕ) → length (operand (number (pos n)) ∷ below) ≤ most_in tree w part
-    few_slots n = omega (arith, acted_on-length sc _ text level (most_in tree w part) (deeds.tests test.WaitAny) ns s.stands.pc next s.stands.slots below acts_at, s.stands.few)
+    few_slots n = omega (arith, acted_on_length sc _ text level (most_in tree w part) (deeds.tests test.WaitAny) ns s.stands.pc next s.stands.slots below acts_at, s.stands.few)
 
     number_is_q : woken_number img.numbers core.registers.stack ≡ q.woken
     number_is_q = ap (λ (n : ℕ). woken_number img.numbers n) s.has.own ∙ s.by.waits.woken p ∙ ap (λ (z : Process). z.woken) (process_is w p q s.at)

@@ -1,6 +1,7 @@
 -- Images that picture worlds go with the source through every operator.
 use Rattle.std.proofs.Common.{◌≡◌, refl, ap, subst, ℕ, ◌<◌, ◌≤◌, List, length, Option, Some, None, arith, true}
-use Rattle.b67_pictures.proofs.Prelude.{numbered, FaultKind, PProgram, scopes_of, choice, Process, World, is_able, process_at, first_world_stands, IsOk, IsWholeInstance, Place, Registers, Code, stack_limit, failed, Image, is_live, Outcome, faults, limit, Plains, ProcessActs, Lives, OperatorTouches, IsPrivate, Texts, StepsArePerformed, StepsComeToLimit, true_false, HasFormats, IsShortSegment, Faithful, AreFew, weight, numbered_beyond, Layout, Pictured, living, dead, PicturesBy, Pictures, MayAct, Does, gave, failed_by, stopped, IsListable, NobodyDepends, StacksStayOwn}
+use Rattle.b67_list.proofs.Truths.{true_false}
+use Rattle.b67_pictures.proofs.Prelude.{numbered, FaultKind, PProgram, scopes_of, choice, Process, World, is_able, process_at, first_world_stands, IsOk, IsWholeInstance, Place, Registers, Code, stack_limit, failed, Image, is_live, Outcome, faults, limit, Plains, ProcessActs, Lives, OperatorTouches, IsPrivate, Texts, StepsArePerformed, StepsComeToLimit, HasFormats, IsShortSegment, Faithful, AreFew, weight, numbered_beyond, Layout, Pictured, living, dead, PicturesBy, Pictures, MayAct, Does, gave, failed_by, stopped, IsListable, NobodyDepends, StacksStayOwn}
 use Rattle.algol_meaning.specs.Run.{start, may_go}
 use Rattle.algol_calls.specs.Texts.{AreTexts, HasOuterBlock}
 use Rattle.algol_standing.proofs.LowLaws.{others_keep_low, making_is_low}

@@ -1,6 +1,7 @@
 -- A process that is started has what its starter gives it, and lives.
 use Rattle.std.proofs.Common.{◌≡◌, ◌≢◌, inl, inr, refl, sym, ap, ◌∙◌, subst, ℕ, zero, suc, ◌+◌, ◌*◌, ◌≤◌, ◌<◌, List, [], ◌∷◌, ◌++◌, length, Option, Some, false, arith, length-append}
-use Rattle.b67_pictures.proofs.Prelude.{slice_get, replicate, numbered, set_numbered, Block, block_numbered, level_of, PProgram, Scopes, scopes_of, Named, starts, resume, home, given_cells, task_of, some_depends, own_instances, newest_first, first_on_path, Given, done, Cell, NamedCell, Instance, Process, World, instance_at, or_no_instance, ancestor, segment_of, starts_lie_on_paths, path_first, referred_by_start, IsStanding, IsOnPath, IsWholeInstance, newest_own, skeleton, Word, Place, Pcw, Code, numbered_within, place, Image, place_of, frames_with, named_frames, actuals_are_few, Simple, parameter_cells, zero_cells, decls_depth, stmts_depth, LiesNested, Texts, context_of, BodyAt, ProgramAt, BlocksStart, StartsAt, HasCore, BlocksBegin, length_set_numbered, none_some, tokens_around, FirstDown, numbered_last, numbered_before, begins_with, first_stack, rows_there, controls_fit, HasFacts, facts_of, IsStandingOrNone, LeadAll, fresh_are, Remain, denotes_lasts, Linked, all_each, StandOn, zero_word, Layout, block_controls, controls_count, most_around, IsInReach, home_of, AreLaid, all_laid, reached_stands, AbleActor, actor_of, Refers, started_layout, text_in, level_in, context_in, most_in, events_before, task_stays, TheLaws, Living, Does}
+use Rattle.b67_list.proofs.Numbers.{none_some}
+use Rattle.b67_pictures.proofs.Prelude.{slice_get, replicate, numbered, set_numbered, Block, block_numbered, level_of, PProgram, Scopes, scopes_of, Named, starts, resume, home, given_cells, task_of, some_depends, own_instances, newest_first, first_on_path, Given, done, Cell, NamedCell, Instance, Process, World, instance_at, or_no_instance, ancestor, segment_of, starts_lie_on_paths, path_first, referred_by_start, IsStanding, IsOnPath, IsWholeInstance, newest_own, skeleton, Word, Place, Pcw, Code, numbered_within, place, Image, place_of, frames_with, named_frames, actuals_are_few, Simple, parameter_cells, zero_cells, decls_depth, stmts_depth, LiesNested, Texts, context_of, BodyAt, ProgramAt, BlocksStart, StartsAt, HasCore, BlocksBegin, length_set_numbered, tokens_around, FirstDown, numbered_last, numbered_before, begins_with, first_stack, rows_there, controls_fit, HasFacts, facts_of, IsStandingOrNone, LeadAll, fresh_are, Remain, denotes_lasts, Linked, all_each, StandOn, zero_word, Layout, block_controls, controls_count, most_around, IsInReach, home_of, AreLaid, all_laid, reached_stands, AbleActor, actor_of, Refers, started_layout, text_in, level_in, context_in, most_in, events_before, task_stays, TheLaws, Living, Does}
 use Rattle.algol_meaning.specs.Instances as instances
 use Rattle.algol_standing.proofs.Seen.{top_stands}
 use Rattle.b67_rows.proofs.Begun.{core_of, begun_has}

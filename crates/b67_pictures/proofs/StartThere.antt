@@ -1,7 +1,8 @@
 -- What a process is started with, where its starter stands at the call: the frame that holds the procedure, the cells of what is given, the task,
 -- and the critical frame.
 use Rattle.std.proofs.Common.{◌≡◌, ◌⊎◌, inl, inr, refl, sym, ap, ◌∙◌, subst, ℕ, suc, ◌+◌, ◌<◌, ◌^◌, List, [], ◌∷◌, ◌++◌, length, Option, Some, None, Bool, true, arith}
-use Rattle.b67_pictures.proofs.Prelude.{slice_get, pos, numbered, Block, block_numbered, level_of, PProgram, Scopes, scopes_of, use_of, Parameter, Kind, Named, starts, ask, home, given_cells, task_of, newest_first, first_on_path, referred_by, referred_by_task, Given, number, Instance, Part, lives, instance_at, or_no_instance, ancestor, cell_in as world_cell, DeclaredArray, Shape, shape_of, BlockIsSeen, IsSeenAround, IsInner, is_procedure, segment_of, InGivens, InName, InRest, starts_lie_on_paths, in_either, referred_by_start, IsInSkeleton, IsStanding, IsNoBlock, newest_own, Word, Place, as_irw, as_sirw, event_word, Irw, Pcw, Registers, Sirw, Couple, Start, Code, Segment, one_event, Event, is_open, get_within, place, gives, Image, ◌>->◌, valid, frame, asked, see, ◌>>=◌, cell_place, irw_or_sirw, reached_in, place_of, frames_with, named_frames, Reached, Simple, parameter_cells, parameter_wants, procedures, made_base, made_of, ShapeAgrees, IsVariable, IsDeclaredArray, IsDeclaredEvent, IsProcedure, Context, code_at, LiesNested, AreParameters, Texts, ProgramAt, IsTask, StartsAt, Slot, reference, operand, intrinsic, mark, SlotIs, some_same, InReferred, IsAmongPlaces, FirstDown, AreFit, are_fit, fit_many, length_mapped, Top, reference_read, event_refers_nothing, AreGivenCells, given_are, simple_many, Linked, Begins_with, begins_core, begins_front, IsSeenMade, both_seen, named_leads, event_leads, HasCells, IsParent, variable_leads, named_from, ReferenceLeadsTo, LeadsToEvent, LeadsToVariable, IsNamed, IsInReach, ArePlaced, IsComplete, EventHome, cell_there, has_there, Found, found_laid, part_there, named_parent, scene_placed, reached_stands, made_or_around, Actor, frame_is, Refers, text_in, level_in, context_in, most_in, names_in, frame_low, IsEventAt, TaskIs, ActualsLead}
+use Rattle.b67_list.proofs.Lists.{get_within, length_map}
+use Rattle.b67_pictures.proofs.Prelude.{slice_get, pos, numbered, Block, block_numbered, level_of, PProgram, Scopes, scopes_of, use_of, Parameter, Kind, Named, starts, ask, home, given_cells, task_of, newest_first, first_on_path, referred_by, referred_by_task, Given, number, Instance, Part, lives, instance_at, or_no_instance, ancestor, cell_in as world_cell, DeclaredArray, Shape, shape_of, BlockIsSeen, IsSeenAround, IsInner, is_procedure, segment_of, InGivens, InName, InRest, starts_lie_on_paths, in_either, referred_by_start, IsInSkeleton, IsStanding, IsNoBlock, newest_own, Word, Place, as_irw, as_sirw, event_word, Irw, Pcw, Registers, Sirw, Couple, Start, Code, Segment, one_event, Event, is_open, place, gives, Image, ◌>->◌, valid, frame, asked, see, ◌>>=◌, cell_place, irw_or_sirw, reached_in, place_of, frames_with, named_frames, Reached, Simple, parameter_cells, parameter_wants, procedures, made_base, made_of, ShapeAgrees, IsVariable, IsDeclaredArray, IsDeclaredEvent, IsProcedure, Context, code_at, LiesNested, AreParameters, Texts, ProgramAt, IsTask, StartsAt, Slot, reference, operand, intrinsic, mark, SlotIs, some_same, InReferred, IsAmongPlaces, FirstDown, AreFit, are_fit, fit_many, Top, reference_read, event_refers_nothing, AreGivenCells, given_are, simple_many, Linked, Begins_with, begins_core, begins_front, IsSeenMade, both_seen, named_leads, event_leads, HasCells, IsParent, variable_leads, named_from, ReferenceLeadsTo, LeadsToEvent, LeadsToVariable, IsNamed, IsInReach, ArePlaced, IsComplete, EventHome, cell_there, has_there, Found, found_laid, part_there, named_parent, scene_placed, reached_stands, made_or_around, Actor, frame_is, Refers, text_in, level_in, context_in, most_in, names_in, frame_low, IsEventAt, TaskIs, ActualsLead}
 use Rattle.b67_templates.specs.Cells.{made_from}
 use Rattle.b67_templates.specs.Nested.{AreTold}
 use Rattle.b67_rows.proofs.Words.{event_read}
@@ -158,7 +159,7 @@ module _ (tree : PProgram) (code : Code) (program : ProgramAt code tree) (nested
     fit = are_fit sc context (parameter_wants sc callee) gs at.fit
 
     pub given_many : length gs ≡ length (parameter_cells sc b)
-    given_many = fit_many sc context fit ∙ length_mapped (λ (c : Simple). c.wanted) (parameter_cells sc b)
+    given_many = fit_many sc context fit ∙ length_map (λ (c : Simple). c.wanted) (parameter_cells sc b)
 
     abbrev InReach : ℕ → Type 0
     InReach = IsInReach w (part ∷ outer)

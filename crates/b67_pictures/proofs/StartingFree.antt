@@ -1,17 +1,17 @@
 -- A process that starts another leaves the others alone: on the newest instance of another process nobody depends who did not.
 use Rattle.std.proofs.Common.{◌≡◌, ◌≢◌, inl, refl, sym, ap, ◌∙◌, subst, ℕ, ◌+◌, List, [], ◌∷◌, ◌++◌, length, Option, Some, true, false}
+use Rattle.b67_list.proofs.Numbers.{number_different}
 use Rattle.b67_pictures.proofs.Prelude.{◌&&◌, ◌||◌, slice_get, numbered, set_numbered, Scopes, is_this, some_depends, own_instances, Instance, Process, lives, World, or_no_instance, stack_forth, IsOk, Home, IsInSkeleton, stack_of, skeleton, IsOnPath, IsStanding, IsWholeInstance, place, numbered_before, HasFacts, facts_of, KeepsArrays, keeps_same, StandOn, Layout, AreLaid, LeavesAlone, started_world, started_layout, rows_before}
 use Rattle.std.specs.Prelude.{Bool}
 use Rattle.algol_standing.proofs.Lists.{some_same}
 use Rattle.algol_standing.proofs.Standing.{home_stands}
-use Rattle.b67_frames.proofs.ArraysKept.{is_other as other_is}
 use Rattle.b67_scenes.proofs.Unseen.{newest_alone}
 use Rattle.b67_pictures.proofs.Alone.{IsAfter, free_still, dependent_but, stands_on}
 
 -- who does not depend on it, with one more who does not
 pub none_depends : (qs : List Process) (new : Process) (i c : ℕ) → new.critical ≡ Some c → c ≢ i → some_depends qs i ≡ false → some_depends (qs ++ new ∷ []) i ≡ false
 none_depends [] new i c critical other free =
-    ap (λ (o : Option ℕ). (lives new.state && is_this o i) || false) critical ∙ ap (λ (b : Bool). (lives new.state && b) || false) (other_is c i other) ∙ by (lives new.state)
+    ap (λ (o : Option ℕ). (lives new.state && is_this o i) || false) critical ∙ ap (λ (b : Bool). (lives new.state && b) || false) (number_different c i other) ∙ by (lives new.state)
   where
     by : (b : Bool) → ((b && false) || false) ≡ false
     by true = refl

@@ -15,7 +15,7 @@ use Rattle.b67_table.specs.References.{Two, named, from_top, operand_in, invalid
 use Rattle.b67_table.specs.Rows.{row, store, store_by, stored}
 use Rattle.b67_table.specs.Table.{raw, class_at}
 use Rattle.b67_rows.proofs.Rows.{raw_is}
-use Rattle.b67_rows.proofs.StackWords.{cut-stack}
+use Rattle.b67_rows.proofs.StackWords.{cut_stack}
 use Rattle.b67_rows.proofs.StoreRow.{words_whole, words_long, top_word, under_word}
 
 -- The word on top is stored into the cell of another stack that the word below it names.
@@ -59,7 +59,7 @@ module _ (code : Code) (here : AtOperator code (ops.Plain kinds.Stod)) (elsewher
   saved =
       ap (λ (o : Option (List Word)). with_stack changed r.stack (take (r.s - 2) (words_or o))) (stack_other img.stacks frame.stack r.stack (slice_set (words_of img.stacks frame.stack) (frame.at + index) x) apart)
       ∙ ap (λ (ws : List Word). with_stack changed r.stack (take (r.s - 2) ws)) (words_whole img p core has x y words top)
-      ∙ ap (λ (ws : List Word). with_stack changed r.stack ws) (cut-stack core.below (x ∷ y ∷ []) words (r.s - 2) (omega (arith, words_long img p core has x y words top)))
+      ∙ ap (λ (ws : List Word). with_stack changed r.stack ws) (cut_stack core.below (x ∷ y ∷ []) words (r.s - 2) (omega (arith, words_long img p core has x y words top)))
 
   abbrev two : Word → Word → Two
   two a b = record { x = a; y = b }

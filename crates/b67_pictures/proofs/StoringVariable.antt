@@ -1,6 +1,7 @@
 -- A store into the cell of a variable, in whatever stack, which the word under the top names.
 use Rattle.std.proofs.Common.{◌≡◌, ◌≢◌, ◌⊎◌, inl, inr, refl, sym, ap, ◌∙◌, subst, ℕ, ◌+◌, ◌<◌, ◌≤◌, List, [], ◌∷◌, ◌++◌, length, Option, Some, None, Ok, arith}
-use Rattle.b67_pictures.proofs.Prelude.{slice_set, slice_get, numbered, Store, block_numbered, PProgram, Scopes, scopes_of, Kind, Ask, stores, ask, resume, Choice, choice, choice_of, goes, done, Value, Reference, simple, NamedCell, Instance, Process, Part, World, or_no_instance, with_instance, with_process, cell_in, cells_with, set_cell, Made, Word, Place, Code, stack_limit, word_at, with_word, get_within, as_indexed, place, Image, with_stacks, frame, cell_of, operator_at, Simple, simple_cells, HasKind, Texts, ComesTo, Slot, operand, Core, size, IsCore, HasCore, with_core, ValueIs, newest, SlotsAre, CoreAt, at_operator, registers_now, without_two, same_or_not, action_not_plain, action_is, makes, unmade, value_tag, event_before, events_replaced, facts_of, KeepsArrays, as_many_values, AreMade, ArraysAre, EventsAre, CellsAre, AbleActor, actor_of, gives_within, choice_is, text_in, level_in, context_in, most_in, length_cells, stored_world, changed_at, ChangedCells, changed, TheLaws, VariableHome, PicturesBy, MayAct, Does, gave}
+use Rattle.b67_list.proofs.Lists.{get_within}
+use Rattle.b67_pictures.proofs.Prelude.{slice_set, slice_get, numbered, Store, block_numbered, PProgram, Scopes, scopes_of, Kind, Ask, stores, ask, resume, Choice, choice, choice_of, goes, done, Value, Reference, simple, NamedCell, Instance, Process, Part, World, or_no_instance, with_instance, with_process, cell_in, cells_with, set_cell, Made, Word, Place, Code, stack_limit, word_at, with_word, as_indexed, place, Image, with_stacks, frame, cell_of, operator_at, Simple, simple_cells, HasKind, Texts, ComesTo, Slot, operand, Core, size, IsCore, HasCore, with_core, ValueIs, newest, SlotsAre, CoreAt, at_operator, registers_now, without_two, same_or_not, action_not_plain, action_is, makes, unmade, value_tag, event_before, events_replaced, facts_of, KeepsArrays, as_many_values, AreMade, ArraysAre, EventsAre, CellsAre, AbleActor, actor_of, gives_within, choice_is, text_in, level_in, context_in, most_in, length_cells, stored_world, changed_at, ChangedCells, changed, TheLaws, VariableHome, PicturesBy, MayAct, Does, gave}
 use Rattle.algol_meaning.specs.Rest as meant
 use Rattle.b67_ops.specs.declared.Operator.TheVariants as ops
 use Rattle.b67_ops.specs.declared.PlainKind.TheVariants as kinds

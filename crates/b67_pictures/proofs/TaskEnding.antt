@@ -1,8 +1,10 @@
 -- The end of a process that has a task: its last part is left, the event of its task is caused, and who waits for that is able again.
 use Rattle.algol_standing.proofs.Pairs.{stack_back}
+use Rattle.b67_list.proofs.Numbered.{numbered_same, numbered_set}
+use Rattle.b67_list.proofs.Truths.{true_false}
 use Rattle.b67_pictures.proofs.Deeds.{waiting_not_able}
 use Rattle.std.proofs.Common.{◌≡◌, ◌≢◌, ◌⊎◌, inl, inr, refl, sym, ap, ◌∙◌, subst, ℕ, ◌+◌, List, [], ◌∷◌, length, Option, Some, None, true, false, arith, Bool}
-use Rattle.b67_pictures.proofs.Prelude.{option_map, if◌then◌else◌, numbered, set_numbered, EventState, caused, IsListed, End, block_numbered, PProgram, Scopes, scopes_of, leaves, ask, Choice, choice, ended_releasing, some_depends, is_evaluation, own_instances, event_at, set_event, caused_by_end, list_in, all_withdrawn, leave, done, Reference, event, NamedCell, Instance, Process, Part, is_able, lives, World, instance_at, or_no_instance, process_at, with_process, cell_in, cell_at, event_in, cells_with, set_all_able, stack_forth, IsInSkeleton, Stack, WaitersAreListed, IsOwn, IsStanding, IsOnPath, referred_in_cells, newest_own, stack_of, Place, Code, same_place-true, same_place-self, Event, waiters_at, closed_from, event_changed, with_state, list_of, place, Image, is_critical, Outcome, live_criticals, able_again, told_positions, ProcessState, Ended, registers_releases, released_by, releases, made_base, Texts, ActionAt, Core, HasCore, length_set_numbered, some_same, true_false, at_operator, same_or_not, numbered_set, numbered_other, IsSameBut, action_not_plain, arrays_unchanged, FramesClose, events_unchanged, exit_class, exit_action, HasFacts, facts_of, StandOn, OwnCells, framed_cells, OwnEvent, known_event, event_there, EventsAre, AreLaid, all_laid, Found, found_laid, find, numbered_swap, idle_list, idle_nowhere, LeavesAlone, alike_but, OutmostActor, process_is, gives_within, text_in, level_in, context_in, most_in, stored_world, others_at, same_of, stored_on, changed, CellStore, others_stored, EventsStay, event_stays, waits_still, awaiting_beside, fewer_closed, own_listed, IsEventAt, Pictured, dead, Pictures, PicturesBy, ListIs, WaitsAre, MayAct, Does, gave}
+use Rattle.b67_pictures.proofs.Prelude.{option_map, if◌then◌else◌, numbered, set_numbered, EventState, caused, IsListed, End, block_numbered, PProgram, Scopes, scopes_of, leaves, ask, Choice, choice, ended_releasing, some_depends, is_evaluation, own_instances, event_at, set_event, caused_by_end, list_in, all_withdrawn, leave, done, Reference, event, NamedCell, Instance, Process, Part, is_able, lives, World, instance_at, or_no_instance, process_at, with_process, cell_in, cell_at, event_in, cells_with, set_all_able, stack_forth, IsInSkeleton, Stack, WaitersAreListed, IsOwn, IsStanding, IsOnPath, referred_in_cells, newest_own, stack_of, Place, Code, same_place_true, same_place_self, Event, waiters_at, closed_from, event_changed, with_state, list_of, place, Image, is_critical, Outcome, live_criticals, able_again, told_positions, ProcessState, Ended, registers_releases, released_by, releases, made_base, Texts, ActionAt, Core, HasCore, length_set_numbered, some_same, at_operator, same_or_not, numbered_other, IsSameBut, action_not_plain, arrays_unchanged, FramesClose, events_unchanged, exit_class, exit_action, HasFacts, facts_of, StandOn, OwnCells, framed_cells, OwnEvent, known_event, event_there, EventsAre, AreLaid, all_laid, Found, found_laid, find, numbered_swap, idle_list, idle_nowhere, LeavesAlone, alike_but, OutmostActor, process_is, gives_within, text_in, level_in, context_in, most_in, stored_world, others_at, same_of, stored_on, changed, CellStore, others_stored, EventsStay, event_stays, waits_still, awaiting_beside, fewer_closed, own_listed, IsEventAt, Pictured, dead, Pictures, PicturesBy, ListIs, WaitsAre, MayAct, Does, gave}
 use Rattle.algol_standing.specs.Skeleton as skeletons
 use Rattle.b67_events.specs.Events as kernel
 use Rattle.b67_ops.specs.declared.Operator.TheVariants as ops
@@ -27,7 +29,6 @@ use Rattle.b67_pictures.proofs.Walking.{changed_there}
 use Rattle.b67_pictures.proofs.SameShape.{IsSameShape, shape_back, after_shape, event_moves, states_self, stays_shape}
 use Rattle.b67_pictures.proofs.Waiters.{among_each, owner_lives, owned_standing, WaitsHere, waits_here}
 use Rattle.b67_pictures.proofs.LettingGo.{stay_events, list_events, Waiter, IsWaiter, let_go_all, let_go_beside, let_go_is, let_go_all_shape, all_gone}
-use Rattle.b67_table.proofs.Lists.{numbered_same}
 
 -- ---- lists
 
@@ -322,11 +323,11 @@ module _ (tree : PProgram) (code : Code) (texts : Texts) (closing : FramesClose)
         by_place : (b : Bool) → kernel.same_place at to ≡ b → IsListed (kernel.state_of (if b then option_map (with_state caused) (kernel.event_at to open_events) else kernel.event_at to open_events)).waiters m →
             IsListed (waiters_at to img.events) m × (to ≢ task)
         by_place true same_at l =
-            let to_is : task ≡ to = task_is ∙ same_place-true at to same_at in
+            let to_is : task ≡ to = task_is ∙ same_place_true at to same_at in
             absurd (subst (λ (z : Option Event). IsListed (kernel.state_of (option_map (with_state caused) z)).waiters m) (ap (λ (z : Place). kernel.event_at z open_events) (sym to_is) ∙ open_as) l)
         by_place false other l = (
           fewer_closed core.registers.stack 0 img.events m to l,
-          λ (z : to ≡ task). let clash : false ≡ true = sym other ∙ same_place-self at to (sym (z ∙ task_is)) in cc,
+          λ (z : to ≡ task). let clash : false ≡ true = sym other ∙ same_place_self at to (sym (z ∙ task_is)) in cc,
         )
 
     abbrev stopped : World

@@ -1,6 +1,7 @@
 -- No operator of a pictured image reads or writes a word in the private part of another process.
 use Rattle.std.proofs.Common.{◌≡◌, ◌⊎◌, inl, inr, refl, sym, ap, ◌∙◌, subst, ℕ, ◌+◌, ◌-◌, ◌<◌, ◌≤◌, List, [], ◌∷◌, length, Some, None, Bool, true, false, arith, ◌^◌, ◌++◌}
-use Rattle.b67_pictures.proofs.Prelude.{if◌then◌else◌, pos, numbered, PProgram, PStmts, PDecls, Scopes, scopes_of, Spot, Kind, Named, PhraseText, Ask, nothing, reads, reads_element, indexes, enters, passes, resolves, reads_result, leaves, stores, selects, turns, goes_to, enters_block, starts, writes, makes_arrays, makes_event, ask, event_deed, is_evaluation, own, there, element_of, Given, done, value, cell, Value, Reference, number, Process, World, instance_at, BlockIsSeen, IsSeenAround, IsInner, IsOk, IsWholeInstance, Word, Place, as_pcw-pcw_word, as_sirw-other, irw_laws, as_irw, as_sirw, as_pcw, pcw_word, Pcw, Registers, Brun, Couple, Operator, Intrinsic, Placed, Code, word_at, place, Image, display_at, frame, level_below, Lives, OperatorTouches, IsPrivate, Wanted, parameter_wants, IsRead, of_variable, of_formal, stmts_count, Context, Has, operator_for, code_at, AreNested, Texts, RestsGoOn, ActionAt, CodeGoesOn, given_slots, operands, Slot, control, intrinsic, mark, operand, reference, slots_length, Core, HasCore, CoreStep, CoreSteps, onward, newest, SlotIs, SlotsAre, some_same, none_some, reads_seen, stores_seen, enters_seen, AreFit, none_wanted, are_fit, Taken, Top, top_slot, cell_named, StandsNear, no_sirw, reference_read, result_given, asks_as_own, frame_gives, runs_low, runs_deep, under_top, over_top, call_names, procedure_fits, Layout, Found, NameCellHome, NameStands, LeadsOn, leads_on, name_stands, scene_of, shown_frame, Actor, actor_of, text_in, level_in, context_in, most_in, names_in, IsEntry, Names, procedure_there, by_names, narrow_of, Living, PicturesBy, NobodyDepends}
+use Rattle.b67_list.proofs.Numbers.{none_some}
+use Rattle.b67_pictures.proofs.Prelude.{if◌then◌else◌, pos, numbered, PProgram, PStmts, PDecls, Scopes, scopes_of, Spot, Kind, Named, PhraseText, Ask, nothing, reads, reads_element, indexes, enters, passes, resolves, reads_result, leaves, stores, selects, turns, goes_to, enters_block, starts, writes, makes_arrays, makes_event, ask, event_deed, is_evaluation, own, there, element_of, Given, done, value, cell, Value, Reference, number, Process, World, instance_at, BlockIsSeen, IsSeenAround, IsInner, IsOk, IsWholeInstance, Word, Place, as_pcw_pcw_word, as_sirw_other, irw_laws, as_irw, as_sirw, as_pcw, pcw_word, Pcw, Registers, Brun, Couple, Operator, Intrinsic, Placed, Code, word_at, place, Image, display_at, frame, level_below, Lives, OperatorTouches, IsPrivate, Wanted, parameter_wants, IsRead, of_variable, of_formal, stmts_count, Context, Has, operator_for, code_at, AreNested, Texts, RestsGoOn, ActionAt, CodeGoesOn, given_slots, operands, Slot, control, intrinsic, mark, operand, reference, slots_length, Core, HasCore, CoreStep, CoreSteps, onward, newest, SlotIs, SlotsAre, some_same, reads_seen, stores_seen, enters_seen, AreFit, none_wanted, are_fit, Taken, Top, top_slot, cell_named, StandsNear, no_sirw, reference_read, result_given, asks_as_own, frame_gives, runs_low, runs_deep, under_top, over_top, call_names, procedure_fits, Layout, Found, NameCellHome, NameStands, LeadsOn, leads_on, name_stands, scene_of, shown_frame, Actor, actor_of, text_in, level_in, context_in, most_in, names_in, IsEntry, Names, procedure_there, by_names, narrow_of, Living, PicturesBy, NobodyDepends}
 use Rattle.std.specs.Prelude.{nat_le}
 use Rattle.algol_tree.specs.Plain as tree_forms
 use Rattle.algol_meaning.specs.Rest.{Place as FoundPlace, place as at_place, entered}
@@ -217,8 +218,8 @@ module _ (tree : PProgram) (code : Code) (texts : Texts) (nested : AreNested (sc
         by_op (ops.Plain kinds.Entr) a.0 a.2.stands
         (block_names p img r above.0 above.2
         (ap as_irw above.1 ∙ irw_laws.other (pcw_word c) (λ k. let is = sym (pcw_kind c) ∙ k in cc))
-        (ap as_sirw above.1 ∙ as_sirw-other (pcw_word c) (λ k. let is = sym (pcw_kind c) ∙ k in cc)) c
-        (ap as_pcw above.1 ∙ as_pcw-pcw_word c a.2.fits) refl home_near)
+        (ap as_sirw above.1 ∙ as_sirw_other (pcw_word c) (λ k. let is = sym (pcw_kind c) ∙ k in cc)) c
+        (ap as_pcw above.1 ∙ as_pcw_pcw_word c a.2.fits) refl home_near)
 
     called_near : (n : Named) (gs : List Given) → ask part.rest ≡ enters n gs → At (enters n gs) → Comes
     called_near n gs e a =

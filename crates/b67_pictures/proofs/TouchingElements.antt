@@ -1,6 +1,6 @@
 -- What the operators reach that read an element, index an array, store an element, pass an array on or make arrays.
-use Rattle.std.proofs.Common.{◌≡◌, refl, ap, ◌∙◌, ℕ, ◌-◌, List, [], ◌∷◌, length, Bool, Some, ℤ}
-use Rattle.b67_pictures.proofs.Prelude.{PProgram, PPair, Scopes, scopes_of, Kind, Named, Ask, reads_element, indexes, stores, passes, makes_arrays, ask, element_of, Value, Reference, Shape, Word, Descriptor, Couple, Arrays, Placed, Code, word_at, place, frame, Has, AreNested, Texts, ActionAt, of_row, of_element, ElementReadAt, Slot, element, operand, descriptor, array_asked, Top, top_slot, cell_named, StandsNear, known_is, call_names, over_top, IsElement, IsInReach, MeantArray, array_home, arrays_given, given_lie, at_element, ElementHome, element_home, Finds, LastIndex, last_index, FirstIndex, first_of_two, Actor, text_in, level_in, context_in, most_in, by_names}
+use Rattle.std.proofs.Common.{◌≡◌, refl, ap, ◌∙◌, ℕ, ◌-◌, List, [], ◌∷◌, length, Some}
+use Rattle.b67_pictures.proofs.Prelude.{PProgram, PPair, Scopes, scopes_of, Kind, Named, Ask, reads_element, indexes, stores, passes, makes_arrays, ask, element_of, Value, Reference, Shape, Word, Couple, Arrays, Placed, Code, word_at, place, frame, Has, AreNested, Texts, ActionAt, of_row, of_element, ElementReadAt, element, operand, descriptor, array_asked, Top, top_slot, cell_named, StandsNear, known_is, call_names, over_top, IsElement, IsInReach, MeantArray, array_home, arrays_given, given_lie, at_element, ElementHome, element_home, LastIndex, last_index, FirstIndex, first_of_two, Actor, text_in, level_in, context_in, most_in, by_names}
 use Rattle.b67_ops.specs.declared.Operator.TheVariants as ops
 use Rattle.b67_ops.specs.declared.PlainKind.{PlainKind}
 use Rattle.b67_ops.specs.declared.PlainKind.TheVariants as kinds
@@ -36,9 +36,6 @@ module _ (tree : PProgram) (code : Code) (texts : Texts) (nested : AreNested (sc
     -- the array that a name means there
     abbrev IsHome : Named → Shape → Couple → Type 0
     IsHome n shape couple = MeantArray tree code texts nested actor n shape couple
-
-    abbrev AreFound : Bool → ℤ → Descriptor → List Slot → Type 0
-    AreFound mother z d below = Finds tree code texts nested actor mother z d below
 
     module _ (n : Named) (ks : List ℕ) (v : Value) where
       pub element_read_near : ask part.rest ≡ reads_element n ks v → At (reads_element n ks v) → StandsNear code p img core.registers

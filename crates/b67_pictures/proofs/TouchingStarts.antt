@@ -1,12 +1,14 @@
 -- What the start of a process reaches: the cells that its words name are near, and lead no further.
 use Rattle.std.proofs.Common.{◌≡◌, ◌⊎◌, inl, inr, refl, sym, ap, ◌∙◌, subst, ℕ, ◌+◌, ◌<◌, ◌≤◌, ◌^◌, List, [], ◌∷◌, ◌++◌, length, Option, Some, None, true, false, arith, lit<, append_assoc}
-use Rattle.b67_pictures.proofs.Prelude.{reverse-reverse, slice_get, reverse, pos, PProgram, Scopes, scopes_of, use_of, is_variable, is_formal, Named, Ask, starts, ask, is_evaluation, Given, Reference, Cell, number, Bounds, Part, instance_at, DeclaredArray, Shape, BlockIsSeen, IsSeenAround, InGivens, InName, InRest, CellLow, IsLow, IsStanding, IsAmongParts, IsNoBlock, Word, Place, as_sirw-other, irw_laws, sirw_laws, as_irw, as_sirw, event_word, Descriptor, Irw, Sirw, Couple, Start, Code, words_or, word_at, place, display_at, frame, cell_place, cell_word, irw_or_sirw, cell_of, Wanted, IsDeclaredArray, parameter_wants, Context, AreNested, Texts, ActionAt, StartsAt, IsTask, start_begun, Slot, reference, intrinsic, mark, passed as passed_held, slots_length, newest, SlotIs, some_same, none_some, AreFit, none_wanted, are_fit, Taken, ActualsAre, words_are, Top, top_slot, NearCell, StandsNear, no_sirw, value_tag, event_refers_nothing, reference_read, known_is, runs_low, runs_deep, named_leads, event_leads, HasCells, under_top, procedure_fits, variable_leads, Allotted, ReferenceLeadsTo, LeadsToEvent, Denotes, named_from, IsComplete, IsInReach, ArePlaced, array_index, cell_there, scene_placed, part_there, LeadsOn, Actor, Seen, text_in, level_in, names_in, context_in, most_in, IsEntry, Names, procedure_there, by_names}
+use Rattle.b67_list.proofs.Numbers.{none_some}
+use Rattle.b67_pictures.proofs.Prelude.{reverse-reverse, slice_get, reverse, pos, PProgram, Scopes, scopes_of, use_of, is_variable, is_formal, Named, Ask, starts, ask, is_evaluation, Given, Reference, Cell, number, Bounds, Part, instance_at, DeclaredArray, Shape, BlockIsSeen, IsSeenAround, InGivens, InName, InRest, CellLow, IsLow, IsStanding, IsAmongParts, IsNoBlock, Word, Place, as_sirw_other, irw_laws, sirw_laws, as_irw, as_sirw, event_word, Descriptor, Irw, Sirw, Couple, Start, Code, words_or, word_at, place, display_at, frame, cell_place, cell_word, irw_or_sirw, cell_of, Wanted, IsDeclaredArray, parameter_wants, Context, AreNested, Texts, ActionAt, StartsAt, IsTask, start_begun, Slot, reference, intrinsic, mark, passed as passed_held, slots_length, newest, SlotIs, some_same, AreFit, none_wanted, are_fit, Taken, ActualsAre, words_are, Top, top_slot, NearCell, StandsNear, no_sirw, value_tag, event_refers_nothing, reference_read, known_is, runs_low, runs_deep, named_leads, event_leads, HasCells, under_top, procedure_fits, variable_leads, Allotted, ReferenceLeadsTo, LeadsToEvent, Denotes, named_from, IsComplete, IsInReach, ArePlaced, array_index, cell_there, scene_placed, part_there, LeadsOn, Actor, Seen, text_in, level_in, names_in, context_in, most_in, IsEntry, Names, procedure_there, by_names}
 use Rattle.algol_meaning.specs.Value as cells
 use Rattle.algol_standing.specs.Worlds.{held_in_rest, held_in_givens}
 use Rattle.algol_standing.specs.Lows.{AllLow}
 use Rattle.algol_standing.proofs.Asking.{AskHolds, rest_asks}
 use Rattle.algol_standing.proofs.Holding.{AreAll}
 use Rattle.b67_control.specs.Control.{descriptor_word}
+use Rattle.b67_control.proofs.ControlLaws.{tag_zero}
 use Rattle.b67_ops.specs.declared.Operator.TheVariants as ops
 use Rattle.b67_ops.specs.declared.PlainKind.TheVariants as kinds
 use Rattle.b67_ops.specs.Intrinsics.{intrinsic_number_of, couple_of_intrinsic}
@@ -19,7 +21,6 @@ use Rattle.b67_footprints.proofs.Lists.{Each, each_turned, each_both}
 use Rattle.b67_rows.proofs.GivenWords.{a_value, a_name, a_cell, an_event_name, an_event_cell, a_variable, an_actual, a_name_cell}
 use Rattle.b67_rows.proofs.Touching.{system_cell}
 use Rattle.b67_rows.proofs.TouchingNames.{one_word, one_cell, entry_names_above}
-use Rattle.b67_rows.proofs.Words.{tag_zero}
 use Rattle.b67_frames.specs.Arrays.{DescriptorIs}
 use Rattle.b67_frames.proofs.NamedEvents.{far_event}
 use Rattle.b67_frames.proofs.TouchingCalls.{above_others, lies_there, pcw_no_sirw}
@@ -37,7 +38,7 @@ use Rattle.b67_pictures.proofs.ParentPlaces.{standing_cells}
 
 -- a descriptor refers to nothing
 descriptor_refers_nothing : (d : Descriptor) → as_sirw (descriptor_word d) ≡ None
-descriptor_refers_nothing d = as_sirw-other (descriptor_word d) (λ k. let is = sym (tag_descriptor (descriptor_word d) (descriptor_tag d)) ∙ k in cc)
+descriptor_refers_nothing d = as_sirw_other (descriptor_word d) (λ k. let is = sym (tag_descriptor (descriptor_word d) (descriptor_tag d)) ∙ k in cc)
 
 array_refers_nothing : (bs : List Bounds) (a : Allotted) (w : Word) → DescriptorIs bs a w → as_sirw w ≡ None
 array_refers_nothing [] a w is = absurd is

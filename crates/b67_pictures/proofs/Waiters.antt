@@ -1,6 +1,7 @@
 -- Who waits for an event: it lives, its events stand, and it stands among those who wait for them only.
 use Rattle.std.proofs.Common.{◌≡◌, ◌≢◌, refl, sym, ap, ◌∙◌, subst, ℕ, List, [], ◌∷◌, Option, Some, Bool, true}
-use Rattle.b67_pictures.proofs.Prelude.{◌||◌, numbered, IsListed, PProgram, Scopes, scopes_of, own_instances, list_in, same_reference, Reference, Part, Process, State, able, waits_for, waits_any, procures, ended, lives, World, process_at, stack_forth, IsOk, IsInSkeleton, IsStanding, IsWholeInstance, Awaits, stack_of, skeleton, newest_own, IsOnPath, Place, Code, waiters_at, event_is_among, list_of, Image, AwaitsAt, ProcessState, WaitsFor, WaitsAny, Procures, Texts, true_false, Layout, LivesIn, lives_waiting, process_is, own_listed, IsEventAt, Pictured, living, dead, PicturesBy, StateIs}
+use Rattle.b67_list.proofs.Truths.{true_false}
+use Rattle.b67_pictures.proofs.Prelude.{◌||◌, numbered, IsListed, PProgram, Scopes, scopes_of, own_instances, list_in, same_reference, Reference, Part, Process, State, able, waits_for, waits_any, procures, ended, lives, World, process_at, stack_forth, IsOk, IsInSkeleton, IsStanding, IsWholeInstance, Awaits, stack_of, skeleton, newest_own, IsOnPath, Place, Code, waiters_at, event_is_among, list_of, Image, AwaitsAt, ProcessState, WaitsFor, WaitsAny, Procures, Texts, Layout, LivesIn, lives_waiting, process_is, own_listed, IsEventAt, Pictured, living, dead, PicturesBy, StateIs}
 use Rattle.algol_meaning.specs.Events.{reference_is_among}
 use Rattle.algol_standing.specs.Worlds.{IsAwaited, HasHead}
 use Rattle.algol_standing.proofs.Awaiting.{awaits_lives}

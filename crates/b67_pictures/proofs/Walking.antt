@@ -1,6 +1,6 @@
 -- Events of the kernel that are changed one after the other are changed as all at once.
 use Rattle.std.proofs.Common.{◌≡◌, ◌⊎◌, inl, inr, refl, sym, ap, ◌∙◌, subst, ℕ, List, [], ◌∷◌, Option, Some, None, Bool, true, false}
-use Rattle.b67_pictures.proofs.Prelude.{eqb-true, eq-eqb, option_map, if◌then◌else◌, ◌==◌, ◌||◌, map, EventState, left_by, joined, IsListed, Place, one_event, same_place-true, same_place-self, Event, same_place, waiters_at, event_is_among, event_changed, with_state}
+use Rattle.b67_pictures.proofs.Prelude.{eqb-true, eq-eqb, option_map, if◌then◌else◌, ◌==◌, ◌||◌, map, EventState, left_by, joined, IsListed, Place, one_event, same_place_true, same_place_self, Event, same_place, waiters_at, event_is_among, event_changed, with_state}
 use Rattle.std.specs.Prelude.{not, filter}
 use Rattle.b67_deeds.proofs.Lists.{listed_either}
 use Rattle.b67_events.specs.Events.{event_at, state_of, joined_all}
@@ -13,9 +13,9 @@ changed_there at to change es = by_test (same_place at to) refl
   where
     by_test : (b : Bool) → same_place at to ≡ b → event_at to (event_changed at (with_state change) es) ≡ (if b then option_map (with_state change) (event_at to es) else event_at to es)
     by_test true e =
-        subst (λ (z : Place). event_at z (event_changed at (with_state change) es) ≡ option_map (with_state change) (event_at z es)) (same_place-true at to e)
+        subst (λ (z : Place). event_at z (event_changed at (with_state change) es) ≡ option_map (with_state change) (event_at z es)) (same_place_true at to e)
         (one_event.here at (with_state change) (λ x. refl) es)
-    by_test false e = one_event.elsewhere at to (with_state change) (λ x. refl) (λ (same : to ≡ at). let clash : false ≡ true = sym e ∙ same_place-self at to (sym same) in cc) es
+    by_test false e = one_event.elsewhere at to (with_state change) (λ x. refl) (λ (same : to ≡ at). let clash : false ≡ true = sym e ∙ same_place_self at to (sym same) in cc) es
 
 -- what is at a place after all are changed
 pub all_changed : (change : EventState → EventState) (at : Place) (es : List Event) → event_at at (map (with_state change) es) ≡ option_map (with_state change) (event_at at es)
@@ -130,7 +130,7 @@ joining_there p seen (at ∷ ats) es to =
 
     -- the same place is seen or not
     seen_same : same_place at to ≡ true → event_is_among seen to ≡ event_is_among seen at
-    seen_same e = ap (λ (z : Place). event_is_among seen z) (sym (same_place-true at to e))
+    seen_same e = ap (λ (z : Place). event_is_among seen z) (sym (same_place_true at to e))
 
     after_seen : (a b c : Bool) → (a ≡ true → b ≡ true) → (o : Option Event) → (if a || b then o else (if c then g o else o)) ≡ (if b then o else (if a || c then g o else o))
     after_seen true true c h o = refl
@@ -185,7 +185,7 @@ joined_there p ats (x ∷ es) to = by_place (same_place x.place to) refl (joined
         ≡ (if event_is_among ats to then g (if same_place x.place to then Some x else event_at to es) else (if same_place x.place to then Some x else event_at to es))
     by_place true e further =
         ap (λ (b : Bool). if b then Some (first (event_is_among ats x.place)) else event_at to (joined_all ats p es)) (same_first (event_is_among ats x.place) ∙ e)
-        ∙ ap (λ (z : Place). Some (first (event_is_among ats z))) (same_place-true x.place to e)
+        ∙ ap (λ (z : Place). Some (first (event_is_among ats z))) (same_place_true x.place to e)
         ∙ here (event_is_among ats to)
         ∙ ap (λ (b : Bool). if event_is_among ats to then g (if b then Some x else event_at to es) else (if b then Some x else event_at to es)) (sym e)
     by_place false e further =
@@ -210,7 +210,7 @@ step_more p at es k to listed = by_test (same_place at to) refl (subst (λ (o : 
     with_place same (inr e) = inr (e, same)
 
     by_test : (b : Bool) → same_place at to ≡ b → IsListed (state_of (if b then option_map (with_state (joined p)) (event_at to es) else event_at to es)).waiters k → IsListed (waiters_at to es) k ⊎ ((p ≡ k) × (at ≡ to))
-    by_test true e l = with_place (same_place-true at to e) (joined_more p (event_at to es) k l)
+    by_test true e l = with_place (same_place_true at to e) (joined_more p (event_at to es) k l)
     by_test false e l = inl l
 
 pub all_more : (p : ℕ) (ats : List Place) (es : List Event) (k : ℕ) (to : Place) → IsListed (waiters_at to (joined_all ats p es)) k → IsListed (waiters_at to es) k ⊎ ((p ≡ k) × (event_is_among ats to ≡ true))

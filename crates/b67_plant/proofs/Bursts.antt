@@ -24,7 +24,8 @@ use Rattle.b67_stands.proofs.Taking.{taken_number}
 use Rattle.b67_stands.proofs.Acting.{acts_keep}
 use Rattle.b67_stands.proofs.Turns.{stands_on, stands_taken}
 use Rattle.b67_plant.specs.Calls.{ActsThen, acts_in}
-use Rattle.b67_plant.proofs.Made.{no_acts, refused_none, action_counts}
+use Rattle.b67_plant.proofs.Entered.{held_number}
+use Rattle.b67_plant.proofs.Made.{no_acts, refused_none, action_counts, counted_action}
 use Rattle.b67_plant.proofs.Sharing.{as_it_was}
 
 -- ---- numbers
@@ -191,6 +192,17 @@ module _ (code : Code) (budget : ℕ) (pick : Pick) (processors : ℕ) where
   acted_then acts old new sound stands shared me p answer turns one most (inr (inr (going, mine, (performed, many, e)))) =
       subst (λ (n : ℕ). Shared code budget pick processors (with_acts acts me (turns + n)) new) (sym (ap acts_in e ∙ action_counts performed.done))
       (many_on sound me p one most turns acts old performed new (record { stands = stands; going = going; out = omega (arith, mine, one) }) mine shared many)
+
+  -- and where it is counted, nobody is out with the processor after it
+  pub acted_frees : (acts : List ℕ) (old new : Running) → Sound code → Stands code budget old → Shared code budget pick processors acts old → (me p : ℕ) (answer : Acted) (turns : ℕ) → 1 ≤ me
+      → me ≤ processors → ActsThen pick budget me p old answer turns new → 1 ≤ acts_in answer → IsFree me new
+  acted_frees acts old new sound stands shared me p answer turns one most (inl t) some = absurd (omega (arith, some, refused_none (answer_of budget old) answer t.0))
+  acted_frees acts old new sound stands shared me p answer turns one most (inr (inl (going, other, same, e, none))) some = absurd (omega (arith, some, ap acts_in e))
+  acted_frees acts old new sound stands shared me p answer turns one most (inr (inr (going, mine, (performed, many, e)))) some =
+      let held : 1 ≤ holder_of old.out p = omega (arith, mine, one) in
+      let number = held_number code budget old p stands going held in
+      free_then sound me p one most turns acts old performed new (record { stands = stands; going = going; out = held }) mine shared many number.0 number.1
+      (counted_action performed.done answer e some)
 
   -- a turn more: a take by a processor with which nobody is out, and acts
   module _ (acts : List ℕ) (old taken new : Running) (sound : Sound code) (stands : Stands code budget old) (shared : Shared code budget pick processors acts old) (me p : ℕ) (one : 1 ≤ me)

@@ -1,11 +1,9 @@
 -- What is given of an act, and its numbers.
 use Rattle.std.specs.Prelude.{slice_set}
-use Rattle.std.proofs.Common.{◌≡◌, refl, sym, ap, subst, ◌∙◌, ℕ, ◌+◌, ◌-◌, ◌≤◌, Bool, true, List, [], ◌∷◌, ◌++◌, suc, length, length-append, reverse, Option, Some, None, arith}
+use Rattle.std.proofs.Common.{◌≡◌, refl, sym, ap, subst, ◌∙◌, ℕ, ◌+◌, ◌-◌, ◌≤◌, Bool, true, List, [], ◌∷◌, ◌++◌, length, length-append, reverse, Option, Some, None, arith}
 use Rattle.std.proofs.lemmas.List.{length-map, length-reverse}
 use Rattle.b67_deeds.specs.declared.Letter.{Letter}
 use Rattle.b67_letters.specs.Entries.{letters}
-use Rattle.b67_table.specs.Image.{Image}
-use Rattle.b67_table.specs.Runs.{Runs, begin, entry}
 use Rattle.b67_list.specs.Numbered.{set_numbered}
 use Rattle.b67_schedule.specs.Schedules.{entries, ScheduleModel}
 use Rattle.b67_segment.specs.declared.code.Code.{Code}
@@ -13,9 +11,12 @@ use Rattle.b67_limits.specs.declared.TheConstants.{MOST_BUDGET}
 use Rattle.b67_table.specs.Limits.{most_processes}
 use Rattle.b67_table.specs.Sound.{Sound}
 use Rattle.b67_table.specs.Valid.{IsValid}
+use Rattle.b67_table.proofs.Cited.{history_within}
 use Rattle.b67_machine.specs.declared.entry.Performed.{Performed}
 use Rattle.b67_machine.specs.Kept.{MachineModel, operators_counted}
 use Rattle.b67_machine.specs.Stepping.{MachinePerforms}
+use Rattle.b67_machine.proofs.Agreeing.{letters_long}
+use Rattle.b67_machine.proofs.Entering.{count_most}
 use Rattle.b67_stands.specs.Running.{Running, answer_of}
 use Rattle.b67_action.specs.Able.{one_if}
 use Rattle.b67_joining.specs.Joining.{joining}
@@ -24,7 +25,6 @@ use Rattle.b67_stands.specs.Placing.{holder_of}
 use Rattle.b67_stands.specs.Stands.{Stands}
 use Rattle.b67_stands.specs.Calls.{done_is_action, LetterNoted, Records, ActsOnce}
 use Rattle.b67_stands.proofs.Tails.{tail_most}
-use Rattle.b67_stands.proofs.Counts.{count_most, entries_few}
 use Rattle.b67_stands.proofs.Places.{held_able}
 use Rattle.b67_stands.proofs.Taking.{number_of, waiting_few}
 use Rattle.b67_stands.proofs.Acting.{Given, placed_then}
@@ -38,11 +38,7 @@ budget_is = refl
 pub entries_spent : (code : Code) (budget : ℕ) (old : Running) → Stands code budget old → length (entries old.schedule.runs) ≤ old.spent
 entries_spent code budget old s =
     let r = s.leads.run in
-    omega (arith, ap length r.order, length-reverse r.history, entries_few code r.history r.counts r.before_tails r.runs, s.spends)
-
-letters_long : {code : Code} {history counts : List ℕ} {img : Image} (r : Runs code history counts img) → length (letters r) ≡ length history
-letters_long begin = refl
-letters_long (entry before e) = ap suc (letters_long before)
+    omega (arith, ap length r.order, length-reverse r.history, history_within code r.history r.counts r.before_tails r.runs, s.spends)
 
 -- a letter for each entry
 pub letters_entries : (code : Code) (budget : ℕ) (old : Running) → Stands code budget old → length old.schedule.letters ≡ length (entries old.schedule.runs)

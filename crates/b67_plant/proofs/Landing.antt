@@ -1,6 +1,6 @@
 -- A landing, by what the machine and the dispatcher leave.
-use Rattle.std.specs.Prelude.{slice_set, IfSome, nat_le}
-use Rattle.std.proofs.Common.{◌≡◌, ◌≢◌, ◌⊎◌, inl, inr, refl, sym, ap, subst, ◌∙◌, ℕ, zero, suc, ◌+◌, ◌-◌, ◌<◌, ◌≤◌, ◌^◌, Bool, true, false, List, [], ◌∷◌, ◌++◌, length, Option, Some, None, arith}
+use Rattle.std.specs.Prelude.{slice_set, IfSome}
+use Rattle.std.proofs.Common.{◌≡◌, ◌≢◌, ◌⊎◌, inl, inr, refl, sym, ap, subst, ◌∙◌, ℕ, zero, suc, ◌+◌, ◌-◌, ◌<◌, ◌≤◌, ◌^◌, true, List, [], ◌∷◌, ◌++◌, length, Option, Some, None, arith}
 use Rattle.b67_list.specs.Numbered.{numbered}
 use Rattle.b67_word.specs.Word.{Word}
 use Rattle.b67_control.specs.declared.Registers.{Registers}
@@ -11,18 +11,16 @@ use Rattle.b67_table.specs.Image.{Image, is_live}
 use Rattle.b67_table.specs.Limits.{most_processes}
 use Rattle.b67_table.specs.Private.{floor}
 use Rattle.b67_table.specs.Privacy.{RegistersStay}
+use Rattle.b67_table.proofs.Waking.{able_live}
 use Rattle.b67_private.specs.Parts.{PlainParts}
 use Rattle.b67_action.specs.declared.running.Ran.{Ran}
-use Rattle.b67_machine.specs.declared.reads.End.{End}
 use Rattle.b67_machine.specs.Kept.{MachineModel, operators_counted}
-use Rattle.b67_machine.specs.Reads.{machine_end}
 use Rattle.b67_machine.specs.Stepping.{MachineGoes}
 use Rattle.b67_ready.specs.Ready.{Ready, ReadyPuts}
-use Rattle.b67_stands.specs.Running.{Running, answer_by, answer_of}
+use Rattle.b67_stands.specs.Running.{Running, answer_of}
 use Rattle.b67_stands.specs.Placing.{IsOut}
 use Rattle.b67_stands.specs.Stands.{Stands}
 use Rattle.b67_stands.specs.Calls.{LandsOnce, GoesBack}
-use Rattle.b67_stands.proofs.Advancing.{able_lives}
 use Rattle.b67_stands.proofs.Ends.{goes_on}
 use Rattle.b67_stands.proofs.Landing.{lands_keep}
 use Rattle.b67_stands.proofs.Places.{held_able}
@@ -63,7 +61,7 @@ module _ (code : Code) (budget : ℕ) (old : Running) (p : ℕ) (stands : Stands
 
   pub lives : is_live (numbered old.machine.image.states p) ≡ true
   lives =
-      able_lives (numbered old.machine.image.states p) (held_able old.machine.image old.waiting old.out p (stands.placed going) held)
+      able_live (numbered old.machine.image.states p) (held_able old.machine.image old.waiting old.out p (stands.placed going) held)
 
   -- its count has room
   pub few_counted : (n b : ℕ) → n ≤ MOST_STRETCH → b ≡ budget → b ≤ MOST_BUDGET → operators_counted old.machine.counts p + n < 2 ^ 64
@@ -142,17 +140,6 @@ lands_run budget s old new going some starts puts = record {
   then =
       lands_to budget puts.between new s.process s.ran.plain (runs_go_on budget old puts.between s.process (entries_in s) s.ran.operators going puts.runs) puts.lands;
 }
-
-pub lands_nothing : (budget : ℕ) (s : Stretch) (old : Running) → answer_of budget old ≡ None → 1 ≤ s.room → StartsAs old.machine.image s → IsVain budget s old → LandsWell budget s old old
-lands_nothing budget s old going some starts vain =
-    let on = goes_on budget old going in
-    record {
-      starts = starts;
-      puts = puts_whole s.room budget s old old some (inr (vain, refl));
-      then =
-          ap (λ (x : Bool). answer_by x (machine_end old.machine) (nat_le budget old.spent)) on.lacked
-          ∙ ap (λ (o : Option End). answer_by false o (nat_le budget old.spent)) on.end;
-    }
 
 pub at_least : (n m : ℕ) → n ≢ 0 → n ≡ m → 1 ≤ m
 at_least zero m h e = absurd (h refl)

@@ -13,14 +13,13 @@ use Rattle.b67_action.specs.Able.{one_if}
 use Rattle.b67_machine.specs.Kept.{or_none, operators_counted}
 use Rattle.b67_machine.specs.declared.replay.Replayed.{Replayed}
 use Rattle.b67_machine.specs.declared.replay.Replayed.TheVariants.{Ended, Ran, Illegal, BudgetSpent, NoMemory, Differs}
-use Rattle.b67_processors.specs.Acts.{IsActed}
 use Rattle.b67_processors.specs.declared.Acted.{Acted}
 use Rattle.b67_processors.specs.declared.Acted.TheVariants as acted
 use Rattle.b67_stands.specs.Running.{Running}
 use Rattle.b67_stands.specs.Picked.{Pick}
 use Rattle.b67_stands.specs.Calls.{done_is_action, Records}
 use Rattle.b67_stands.specs.Shared.{Shared, begin, take as takes, land as lands, run as runs, act as acts_once, leave as leaves, with_acts, ByProcessors}
-use Rattle.b67_stands.proofs.Places.{length_set}
+use Rattle.b67_table.proofs.Withdrawing.{length_set}
 use Rattle.b67_plant.specs.Calls.{answer_to, acts_in, refusal}
 
 -- ---- numbers
@@ -74,22 +73,6 @@ action_counts (Some (dones.Fault kind)) = refl
 action_counts (Some (dones.Interrupt kind)) = refl
 action_counts (Some dones.StackLimit) = refl
 action_counts (Some dones.NoMemory) = refl
-
--- and its seat has as many more
-pub acted_more : (answer : Acted) (before now : ℕ) → IsActed answer before now → now ≡ before + acts_in answer
-acted_more acted.Went before now e = e
-acted_more acted.Waits before now e = e
-acted_more acted.NotOut before now e = omega (arith, e)
-acted_more acted.Over before now e = omega (arith, e)
-acted_more acted.NoMemory before now e = omega (arith, e)
-
--- more acts after it are as many before it
-pub acted_further : (answer : Acted) (before now more : ℕ) → IsActed answer before now → IsActed answer (before + more) (now + more)
-acted_further acted.Went before now more e = omega (arith, e)
-acted_further acted.Waits before now more e = omega (arith, e)
-acted_further acted.NotOut before now more e = omega (arith, e)
-acted_further acted.Over before now more e = omega (arith, e)
-acted_further acted.NoMemory before now more e = omega (arith, e)
 
 -- where an act was counted, an action was performed
 pub counted_action : (done : Option Done) (answer : Acted) → answer ≡ answer_to done → 1 ≤ acts_in answer → done_is_action done ≡ true

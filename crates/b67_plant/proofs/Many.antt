@@ -109,13 +109,6 @@ first_within ls zero = omega arith
 first_within [] (suc n) = omega arith
 first_within (l ∷ ls) (suc n) = omega (arith, first_within ls n)
 
--- a part that was lent stands first
-pub first_is : (part rest : List Letter) (n : ℕ) → length part ≡ n → take n (part ++ rest) ≡ part
-first_is [] rest zero e = refl
-first_is [] rest (suc n) e = absurd (omega (arith, e))
-first_is (l ∷ part) rest zero e = absurd (omega (arith, e))
-first_is (l ∷ part) rest (suc n) e = ap (λ (xs : List Letter). l ∷ xs) (first_is part rest n (omega (arith, e)))
-
 -- the letter of an action that was performed is that which was found
 letter_there : (before notes : List Letter) (most n : ℕ) (found : Letter) (kept : Option Letter) (after : List Letter) → n < length (take most notes)
     → found ≡ get_or notes n found → slice_get (take most notes) n ≡ kept → after ≡ before ++ found ∷ [] → LetterNoted before kept after

@@ -7,6 +7,7 @@ use Rattle.std.proofs.Math.Seq.{get_or-append_seam}
 use Rattle.std.specs.List.{sum_by}
 use Rattle.std.proofs.lemmas.List.{map-append, get_or-map, length-map}
 use Rattle.std.proofs.lemmas.List.Sums.{sum_by-cons, sum_by-le-sum_by, sum-map}
+use Rattle.b67_list.proofs.Lists.{drop_next}
 use Rattle.b67_plant.specs.Places.{in_order}
 
 -- ---- places
@@ -65,11 +66,6 @@ same_of_each f (x ∷ xs) (y ∷ ys) same each =
 
 -- ---- numbers
 
-drop_got : (numbers : List ℕ) (k n : ℕ) → slice_get numbers k ≡ Some n → drop k numbers ≡ n ∷ drop (suc k) numbers
-drop_got [] k n e = cc
-drop_got (m ∷ numbers) zero n e = let is : m ≡ n = cc in ap (λ (x : ℕ). x ∷ numbers) is
-drop_got (m ∷ numbers) (suc k) n e = drop_got numbers k n e
-
 drop_all : (numbers : List ℕ) (k : ℕ) → length numbers ≡ k → drop k numbers ≡ []
 drop_all [] zero e = refl
 drop_all [] (suc k) e = refl
@@ -88,7 +84,7 @@ module _ {X : Type 0} (number : X → ℕ) (numbers : List ℕ) where
   pub known_less : (xs left : List X) (x : X) → xs ≡ left ++ x ∷ [] → slice_get numbers (length left) ≡ Some (number x) → known left ≡ known xs
   known_less xs left x is found =
       let longer : length xs ≡ suc (length left) = omega (arith, ap length is, length-append left (x ∷ [])) in
-      ap (λ (ns : List ℕ). map number left ++ ns) (drop_got numbers (length left) (number x) found)
+      ap (λ (ns : List ℕ). map number left ++ ns) (drop_next numbers (length left) (number x) found)
       ∙ sym (append_assoc (map number left) (number x ∷ []) (drop (suc (length left)) numbers))
       ∙ ap (λ (ns : List ℕ). ns ++ drop (suc (length left)) numbers) (sym (map-append number left (x ∷ [])))
       ∙ ap (λ (zs : List X). map number zs ++ drop (suc (length left)) numbers) (sym is)

@@ -3,7 +3,7 @@ ghost use Rattle.std.specs.Prelude.{◌≡◌, ◌≢◌, ◌+◌, ◌<◌, ◌�
 ghost use Rattle.b67_processors.specs.Acts.{IsActed};
 ghost use Rattle.b67_stands.specs.Running.{answer_of};
 ghost use Rattle.b67_stands.specs.Shared.{Shared, IsFree};
-ghost use Rattle.b67_plant.specs.Calls.{LandsOrStays, ActsThen, LeavesOr};
+ghost use Rattle.b67_plant.specs.Calls.{LandsOrStays, ActsThen, LeavesOr, acts_in};
 ghost use Rattle.b67_limits.specs.declared.TheConstants.{MOST_LETTERS};
 
 use crate::placing::acts_in;
@@ -86,6 +86,20 @@ impl<N: Named, L: Ledger, C: Core, P: Rule> Floor<N, L, C, P> {
             self.plant.fetch_out(process, ahead);
             return Taken::Work;
         }
+        self.take_new(me, ahead)
+    }
+
+    // Takes the process at the place that the rule picks, for a processor with which nobody is out.
+    pub fn take_new(&mut self, me: u32, ahead: &mut Ahead<N>) -> Taken
+        requires me { (1 ≤ me) × (me ≤ N.processors) }
+        requires free { IsFree me self.old }
+        requires none { ahead.old.is_there ≡ false }
+        ensures there { result ≡ Taken.Work → ahead.new.is_there ≡ true }
+        ensures other { result ≢ Taken.Work → ahead.new ≡ ahead.old }
+        ensures idle { result ≡ Taken.Idle → answer_of N.budget self.new ≡ None }
+        ensures over { result ≡ Taken.Over → answer_of N.budget self.new ≢ None }
+        ensures lacked { result ≡ Taken.Lacked → answer_of N.budget self.new ≢ None }
+    {
         self.plant.take_ahead(me, ahead)
     }
 
@@ -126,6 +140,7 @@ impl<N: Named, L: Ledger, C: Core, P: Rule> Floor<N, L, C, P> {
         requires further { further < MOST_LETTERS }
         requires whose { seat.old.mark.place + 1 ≡ me }
         ensures acts { ActsThen N.pick N.budget me process self.old result.0 result.1 self.new }
+        ensures free { 1 ≤ acts_in result.0 → IsFree me self.new }
         ensures count { IsActed result.0 (seat.old.count + result.1) seat.new.count }
         ensures fits { seat.new.count < 2 ^ 64 }
         ensures leaves { seat.new.left ≡ seat.old.left }
@@ -164,42 +179,33 @@ impl<N: Named, L: Ledger, C: Core, P: Rule> Floor<N, L, C, P> {
         (made, last > 0)
     }
 
-    // Turns more of a processor after its act, so many at most; and how many actions were performed. There are none where somebody is still out with
-    // it.
-    pub fn turns(&mut self, me: u32, further: u32, seat: &mut Seat<N, L>) -> u64
+    // Turns more of a processor after its act, so many at most; and how many actions were performed. There are none where somebody may still be out
+    // with it, and it is told whether nobody is after them.
+    pub fn turns(&mut self, me: u32, further: u32, free: bool, seat: &mut Seat<N, L>) -> (u64, bool)
         requires me { (1 ≤ me) × (me ≤ N.processors) }
         requires whose { seat.old.mark.place + 1 ≡ me }
+        requires free { free ≡ true → IsFree me self.old }
         requires fits { seat.old.count < 2 ^ 64 }
-        ensures count { seat.new.count ≡ seat.old.count + result }
+        ensures free { result.1 ≡ true → IsFree me self.new }
+        ensures count { seat.new.count ≡ seat.old.count + result.0 }
         ensures fits { seat.new.count < 2 ^ 64 }
         ensures leaves { seat.new.left ≡ seat.old.left }
         ensures whose { seat.new.mark.place ≡ seat.old.mark.place }
     {
-        let mut left = further;
-        if left == 0 || !self.is_free(me) {
-            return 0;
+        if !free {
+            return (0, false);
         }
+        let mut left = further;
         let mut made = 0;
         'turns: while left > 0 {
             left -= 1;
             let (more, goes) = self.turn(me, seat);
             made += more;
             if !goes {
-                return made;
+                return (made, false);
             }
         }
-        made
-    }
-
-    // Tests that the run goes on, and that nobody is out with a processor.
-    fn is_free(&self, me: u32) -> bool
-        requires { 1 ≤ me }
-        ensures { result ≡ true → IsFree me self.now }
-    {
-        match self.plant.answer() {
-            Some(_) => false,
-            None => self.plant.out_with(me).is_none(),
-        }
+        (made, true)
     }
 
     // A processor stops, as the plant says.

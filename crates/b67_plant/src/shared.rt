@@ -7,11 +7,12 @@
 ghost use Rattle.std.specs.Prelude.{◌≡◌, ◌≢◌, ℕ, ◌+◌, ◌<◌, ◌≤◌, ◌^◌, List, true, false, Some};
 ghost use Rattle.std.specs.Sync.Mutex.{mutex_guard_value};
 ghost use Rattle.b67_processors.specs.Acts.{IsActed};
-ghost use Rattle.b67_stands.specs.Shared.{Shared};
+ghost use Rattle.b67_stands.specs.Shared.{Shared, IsFree};
 ghost use Rattle.b67_plant.specs.Calls.{HasLanded};
 ghost use Rattle.b67_parcel.specs.Parcels.{IsWorked};
 ghost use Rattle.b67_limits.specs.declared.TheConstants.{MOST_LETTERS};
 
+use crate::placing::acts_in;
 use crate::{Floor, Named, Parcel, Plant, PlantLanding, Seat, Taken};
 use b67_processors::{Acted, Landing, Shop, Work};
 use b67_ready::Rule;
@@ -104,13 +105,16 @@ fn tried<N: Named, L: Ledger, C: Core, P: Rule>(
     }
 }
 
-// Takes the next process, where the processor has none, and says whether the run has an end or lacked memory.
+// Takes the next process, where the processor has none, and says whether the run has an end or lacked memory. Where nobody is known to be out with
+// it, none is looked for.
 fn take_next<N: Named, L: Ledger, C: Core, P: Rule>(
     floor: &mut Floor<N, L, C, P>,
     me: u32,
+    free: bool,
     seat: &mut Seat<N, L>,
 ) -> bool
-    requires { (1 ≤ me) × (me ≤ N.processors) }
+    requires me { (1 ≤ me) × (me ≤ N.processors) }
+    requires free { free ≡ true → IsFree me floor.old }
     ensures count { seat.new.count ≡ seat.old.count }
     ensures left { seat.new.left ≡ seat.old.left }
     ensures mark { seat.new.mark ≡ seat.old.mark }
@@ -119,7 +123,12 @@ fn take_next<N: Named, L: Ledger, C: Core, P: Rule>(
     if seat.ahead.is_there() {
         return floor.plant().answer().is_some();
     }
-    match floor.take(me, &mut seat.ahead) {
+    let taken = if free {
+        floor.take_new(me, &mut seat.ahead)
+    } else {
+        floor.take(me, &mut seat.ahead)
+    };
+    match taken {
         Taken::Work | Taken::Idle => false,
         Taken::Over | Taken::Lacked => true,
     }
@@ -278,8 +287,9 @@ impl<'a, N: Named + Send + Sync, L: Ledger + Send + Sync, C: Core + Send, P: Rul
         } = pass;
         let before = floor.plant().waiting();
         let (acted, others) = floor.act(me, process, further, seat);
-        let more = floor.turns(me, further, seat);
-        let has_ended = take_next(&mut *floor, me, seat);
+        let free = acts_in(acted) > 0;
+        let (more, free) = floor.turns(me, further, free, seat);
+        let has_ended = take_next(&mut *floor, me, free, seat);
         let joined = floor.plant().waiting().saturating_sub(before);
         drop(floor);
         self.wake(has_ended, joined);

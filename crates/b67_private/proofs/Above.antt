@@ -10,10 +10,11 @@ use Rattle.b67_store.specs.Store.{stack_limit, left_in}
 use Rattle.b67_table.specs.declared.Private.{Private}
 use Rattle.b67_table.specs.Limits.{segment_limit}
 use Rattle.b67_table.specs.Privacy.{RegistersStay}
+use Rattle.b67_table.proofs.Cited.{keeps_both}
 use Rattle.b67_private.specs.Parts.{own_next, is_plain, PlainParts, stay, go, part_with, part_in, IsPrivatePart, HasPart, AreReady}
 use Rattle.b67_private.proofs.Deeper.{is_short, deep, not_short}
 use Rattle.b67_private.proofs.Rooms.{upper_in, from_base, left_is}
-use Rattle.b67_private.proofs.Stepping.{Leaves, leaves, kept_all}
+use Rattle.b67_private.proofs.Stepping.{Leaves, leaves}
 use Rattle.b67_private.proofs.Stretching.{own_next_deep, plain_deep, from_deeper}
 
 -- no word is missed in a part
@@ -50,7 +51,7 @@ module _ (code : Code) (small : All (λ (s : Segment). length s.words ≤ segmen
   all_leave a b n k (go {b = c} e rest) =
       let one = leaves code small a c k e in
       let more = all_leave c b _ one.part rest in
-      record { part = more.part; keeps = kept_all a.regs c.regs b.regs one.keeps more.keeps }
+      record { part = more.part; keeps = keeps_both a.regs c.regs b.regs one.keeps more.keeps }
 
   -- so many plain operators of a part, and what they leave where these words lie below it
   pub record Above (lower : List Word) (a b : Private) (n : ℕ) : Type 0 where

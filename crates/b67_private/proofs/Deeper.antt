@@ -207,10 +207,6 @@ module _ (lower : List Word) where
       inl
       (by_test (nat_le (m.regs.s - (frame m.regs + 2)) most_cells) (gives (record m { regs = record m.regs { cells = m.regs.s - (frame m.regs + 2) } })) (interrupts InvalidOperand))
 
-  push_deep : (w : Word) → Deep (λ (q : Private). gives (push w q))
-  unfolding Deep
-  push_deep w m = inl refl
-
   nothing_deep : Deep gives
   unfolding Deep
   nothing_deep m = inl refl

@@ -68,11 +68,6 @@ pub decoded_held : (code : Code) (segment level : ℕ) (operators : Operators) �
 decoded_held code segment level operators l decoded place =
     held_found level (at_place operators place) (omega (arith, l)) (fits_found code segment level place l (at_place operators place) (decoded place))
 
--- a row of what was decoded is one of what is found
-pub row_found : (code : Code) (segment level place : ℕ) (operators : Operators) (o : Option (Row × ℕ)) → AreDecoded code segment level operators
-    → IfSome o (λ r. IsRowOf place (at_place operators place) r) → IfSome o (λ r. IsRowOf place (found code segment level place) r)
-row_found code segment level place operators o decoded k = subst (λ (f : Option (Operator × ℕ)). IfSome o (λ r. IsRowOf place f r)) (decoded place) k
-
 -- ---- one operator by its row
 
 by_row : (size : ℕ) (code : Code) (old new : Private) (r : Row) (next : ℕ) (result : Result (Unit {0}) Stop) (o : Option (Operator × ℕ))

@@ -1,8 +1,10 @@
 -- So many plain operators of a private part are so many plain operators of its process.
-use Rattle.std.proofs.Common.{◌≡◌, inr, refl, sym, ap, subst, ◌∙◌, ℕ, zero, suc, ◌+◌, ◌-◌, ◌<◌, ◌≤◌, true, false, List, ◌++◌, length, take, drop, set, Option, Some, None, take-append-drop, arith}
+use Rattle.std.proofs.Common.{◌≡◌, inr, refl, sym, ap, subst, ◌∙◌, ℕ, ◌+◌, ◌-◌, ◌<◌, ◌≤◌, true, false, List, ◌++◌, length, take, drop, set, Option, Some, None, take-append-drop, arith}
 use Rattle.std.specs.Prelude.{reverse}
 use Rattle.std.proofs.lemmas.List.{reverse-append, reverse-reverse, length-drop, length-take-le}
 use Rattle.b67_list.specs.Numbered.{numbered, set_numbered}
+use Rattle.b67_list.proofs.Lists.{set_set_here}
+use Rattle.b67_list.proofs.Numbered.{numbered_same, numbered_twice}
 use Rattle.b67_word.specs.Word.{Word}
 use Rattle.b67_control.specs.Display.{levels}
 use Rattle.b67_control.specs.declared.Registers.{Registers}
@@ -10,6 +12,7 @@ use Rattle.b67_ops.specs.declared.Operator.{Operator}
 use Rattle.b67_segment.specs.declared.code.Code.{Code}
 use Rattle.b67_segment.specs.Decoded.{found}
 use Rattle.b67_store.specs.Store.{words_of, stack_limit}
+use Rattle.b67_store.proofs.Cited.{put_there}
 use Rattle.b67_table.specs.declared.Private.{Private}
 use Rattle.b67_table.specs.Outcome.{gives}
 use Rattle.b67_table.specs.Private.{floor}
@@ -21,12 +24,11 @@ use Rattle.b67_table.specs.Table.{private_op, table, plain}
 use Rattle.b67_table.specs.Valid.{IsProcess, IsValid}
 use Rattle.b67_table.proofs.FirstValid.{counted, valid_stands}
 use Rattle.b67_table.proofs.Keeping.{private_keeps}
-use Rattle.b67_table.proofs.Lists.{numbered_set, numbered_within, numbered_same, set_there}
+use Rattle.b67_table.proofs.Lists.{numbered_set, numbered_within}
 use Rattle.b67_table.proofs.OwnValid.{own_image, words_here, opened}
 use Rattle.b67_table.proofs.PrivateAll.{private_op_kept}
 use Rattle.b67_table.proofs.PrivateKept as kept
 use Rattle.b67_table.proofs.PrivateValid.{part_is, put_valid}
-use Rattle.b67_table.proofs.Stacks.{set_set_here}
 use Rattle.b67_private.specs.Parts.{outcome_by, own_next, is_new, is_plain, PlainParts, part_with, stay, go}
 use Rattle.b67_private.specs.Laws.{IsStretch, StretchesAreOwn}
 use Rattle.b67_private.proofs.Deeper.{is_short, deep, not_short, whole_is_enough}
@@ -34,10 +36,6 @@ use Rattle.b67_private.proofs.Floors.{private_op_rises}
 use Rattle.b67_private.proofs.Own.{own_operator}
 use Rattle.b67_private.proofs.Stepping.{fits_of, given_of}
 use Rattle.b67_private.proofs.Stretching.{own_next_deep, plain_deep, from_deeper, upper_words, put_back}
-
-numbered_twice : {X : Type 0} (xs : List X) (p : ℕ) (a b : X) → set_numbered (set_numbered xs p a) p b ≡ set_numbered xs p b
-numbered_twice xs zero a b = refl
-numbered_twice xs (suc k) a b = set_set_here xs k a b
 
 -- a private part put into an image, where its stack is the process's
 put_is : (x : Image) (p base : ℕ) (q : Private) → q.regs.stack ≡ p → with_private x p base q ≡ own_image x p (take base (words_of x.stacks p) ++ reverse q.words) q.regs
@@ -53,9 +51,6 @@ module _ (code : Code) (img : Image) (p : ℕ) (r : Registers) (v : IsValid code
     (has : numbered img.regs p ≡ Some r) where
   own : IsProcess img p r
   own = v.processes p r live has
-
-  abbrev pub under : List Word
-  under = take (floor r) (words_of img.stacks p)
 
   abbrev pub image_of : Private → Image
   image_of a = own_image img p (take (floor r) (words_of img.stacks p) ++ reverse a.words) a.regs
@@ -214,7 +209,7 @@ module _ (code : Code) (img : Image) (p : ℕ) (r : Registers) (v : IsValid code
   first_image_is : image_of (private_of img r) ≡ img
   first_image_is =
       ap (λ (ws : List Word). own_image img p ws r) first_words
-      ∙ ap (λ stacks. record img { stacks = stacks; regs = set_numbered img.regs p r }) (set_there img.stacks p (words_of img.stacks p) (opened code img p r v live has))
+      ∙ ap (λ stacks. record img { stacks = stacks; regs = set_numbered img.regs p r }) (put_there img.stacks p (words_of img.stacks p) (opened code img p r v live has))
       ∙ ap (λ regs. record img { regs = regs }) (numbered_same img.regs p r has)
 
   put_again : (b : Private) → Fine b → image_of b ≡ with_private img p (floor r) b

@@ -1,5 +1,5 @@
 -- One plain operator of a private part: what it needs, and what it leaves.
-use Rattle.std.proofs.Common.{◌≡◌, refl, sym, ap, subst, ◌∙◌, ℕ, ◌+◌, ◌^◌, ◌<◌, ◌≤◌, length, All, Option, Some, None, Result, Ok, Err, Bool, true, false, cond, ⊎_elim, arith}
+use Rattle.std.proofs.Common.{◌≡◌, refl, sym, ap, subst, ◌∙◌, ℕ, ◌+◌, ◌<◌, ◌≤◌, length, All, Option, Some, None, Result, Ok, Err, Bool, true, false, cond, ⊎_elim, arith}
 use Rattle.std.specs.Prelude.{nat_le, is_ok, IfSome}
 use Rattle.std.proofs.lemmas.Bool.{leb-true}
 use Rattle.b67_control.specs.Display.{levels}
@@ -9,7 +9,7 @@ use Rattle.b67_ops.specs.declared.Couple.{Couple}
 use Rattle.b67_ops.specs.declared.Operator.{Operator}
 use Rattle.b67_ops.specs.declared.Operator.TheVariants as ops
 use Rattle.b67_ops.specs.declared.BadCode.{BadCode}
-use Rattle.b67_ops.specs.Spelling.{Fits, FitsAs, CoupleIsSeen, level_bits, index_bits}
+use Rattle.b67_ops.specs.Spelling.{Fits, FitsAs, CoupleIsSeen}
 use Rattle.b67_segment.specs.declared.code.Segment.{Segment}
 use Rattle.b67_segment.specs.declared.code.Code.{Code}
 use Rattle.b67_segment.specs.Fetching.{fetched}
@@ -26,7 +26,8 @@ use Rattle.b67_table.proofs.PrivateKept as kept
 use Rattle.b67_table.proofs.PrivateAll.{private_op_kept}
 use Rattle.b67_table.proofs.PrivateValid.{Fetched, operator_fits}
 use Rattle.b67_table.proofs.Keeping.{private_keeps}
-use Rattle.b67_segment.proofs.Fetches.{fetched-ok}
+use Rattle.b67_table.proofs.Wordly.{few_index_bits}
+use Rattle.b67_segment.proofs.Fetches.{fetched_ok}
 use Rattle.b67_private.specs.declared.Stop.{Stop}
 use Rattle.b67_private.specs.declared.Stop.TheVariants as stops
 use Rattle.b67_private.specs.declared.operators.Row.{Row}
@@ -36,10 +37,6 @@ use Rattle.b67_private.specs.Operating.{effect_by, PrivateHasRow, IsHeldCouple}
 use Rattle.b67_private.proofs.Floors.{private_op_rises}
 
 -- ---- operands
-
-few_index_bits : (level : ℕ) → 2 ^ index_bits level ≤ 2 ^ 14
-unfolding level_bits
-few_index_bits level = grind (arith)
 
 held_couple : (level : ℕ) (couple : Couple) → level < levels → CoupleIsSeen level couple → IsHeldCouple couple
 held_couple level couple l f = (omega (arith, l, f.level_seen), omega (arith, f.index_fits, few_index_bits level))
@@ -76,7 +73,7 @@ given_of (effects.faults kind) new e = cc
 given_of (effects.interrupts kind) new e = cc
 
 -- the operator that is found is fetched
-fetched_of : (r : Result (Operator × ℕ) BadCode) (f : Operator × ℕ) → if_good r ≡ Some f → r ≡ Ok f
+pub fetched_of : (r : Result (Operator × ℕ) BadCode) (f : Operator × ℕ) → if_good r ≡ Some f → r ≡ Ok f
 fetched_of (Ok g) f e = let same : g ≡ f = cc in ap Ok same
 fetched_of (Err bad) f e = cc
 
@@ -141,7 +138,7 @@ one_more code a b c n (go d rest) e = go d (one_more code _ b c _ rest e)
 
 fits_if : (code : Code) (segment level place : ℕ) → level ≤ MOST_LEVEL → (r : Result (Operator × ℕ) BadCode)
     → fetched code (record { segment = segment; place = place }) level ≡ r → IfSome (if_good r) (λ f. Fits level f.0)
-fits_if code segment level place l (Ok f) e = ((fetched-ok code (record { segment = segment; place = place }) level l f.0 f.1).0 e).stands.fits
+fits_if code segment level place l (Ok f) e = ((fetched_ok code (record { segment = segment; place = place }) level l f.0 f.1).0 e).stands.fits
 fits_if code segment level place l (Err bad) e = tt
 
 pub fits_found : (code : Code) (segment level place : ℕ) → level ≤ MOST_LEVEL → (o : Option (Operator × ℕ)) → o ≡ found code segment level place
@@ -188,6 +185,3 @@ went size outcome old new false e h = cc
 pub waits : (size : ℕ) (code : Code) (old new : Private) (b : Bool) → b ≡ false → HasPlace size old → Steps size (own_next code old) old b new → is_plain code new ≡ false
 waits size code old new true e place h = cc
 waits size code old new false e place h = ap (is_plain code) h.1 ∙ h.0 place
-
-pub kept_all : (a b c : Registers) → RegistersStay a b → RegistersStay b c → RegistersStay a c
-kept_all a b c h k = (k.0 ∙ h.0, k.1 ∙ h.1, k.2 ∙ h.2, k.3 ∙ h.3, k.4 ∙ h.4, k.5 ∙ h.5)

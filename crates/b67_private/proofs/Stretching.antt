@@ -2,7 +2,7 @@
 use Rattle.std.proofs.Common.{◌≡◌, ◌⊎◌, inl, inr, refl, sym, ap, ◌∙◌, ℕ, ◌+◌, Bool, true, false, cond, List, ◌++◌, length, take, drop, Option, Some, None, append_assoc, length-append, arith}
 use Rattle.std.specs.Prelude.{reverse, nat_le}
 use Rattle.std.proofs.lemmas.List.{reverse-append, reverse-reverse, length-reverse}
-use Rattle.std.proofs.Math.Seq.{drop-append-add, take-append_seam}
+use Rattle.std.proofs.Math.Seq.{drop-append-add}
 use Rattle.b67_word.specs.Word.{Word}
 use Rattle.b67_ops.specs.declared.Operator.{Operator}
 use Rattle.b67_segment.specs.declared.code.Code.{Code}
@@ -15,6 +15,7 @@ use Rattle.b67_table.specs.declared.InterruptKind.TheVariants.{StackUnderflow}
 use Rattle.b67_table.specs.Outcome.{Outcome, gives, faults, interrupts, limit, limited}
 use Rattle.b67_table.specs.Table.{private_op}
 use Rattle.b67_store.proofs.TopFirst.{cut_is}
+use Rattle.b67_list.proofs.Lists.{take_front}
 use Rattle.b67_private.specs.Parts.{length_of, own_outcome, outcome_by, own_next, is_new, is_plain}
 use Rattle.b67_private.proofs.Deeper.{is_short, Lacks, deep, deepened, Deepens, private_op_deep, lacks_none}
 
@@ -60,15 +61,8 @@ module _ (lower : List Word) where
   same_by m e f k (inl same) = same
   same_by m e f k (inr l) = absurd (lacks_none m k l.1)
 
-  goes_by : (m q : Private) (e f : Outcome Private) → f ≡ gives q → Deepens_outcome m e f → e ≡ gives (deep lower q)
-  goes_by m q e f g (inl same) = same ∙ ap deeper g
-  goes_by m q e f g (inr l) = let none : interrupts StackUnderflow ≡ gives q = sym l.0 ∙ g in cc
-
   pub own_outcome_same : (op : Operator) (next : ℕ) (m : Private) → is_short m ≡ false → own_outcome op next (deep lower m) ≡ deeper (own_outcome op next m)
   own_outcome_same op next m k = same_by m (own_outcome op next (deep lower m)) (own_outcome op next m) k (own_outcome_deep op next m)
-
-  pub own_outcome_goes : (op : Operator) (next : ℕ) (m q : Private) → own_outcome op next m ≡ gives q → own_outcome op next (deep lower m) ≡ gives (deep lower q)
-  own_outcome_goes op next m q e = goes_by m q (own_outcome op next (deep lower m)) (own_outcome op next m) e (own_outcome_deep op next m)
 
   pub own_next_deep : (code : Code) (m : Private) → is_short m ≡ false → own_next code (deep lower m) ≡ deeper (own_next code m)
   own_next_deep code m k = same_by m (own_next code (deep lower m)) (own_next code m) k (next_deep code m)
@@ -95,9 +89,6 @@ module _ (lower : List Word) where
 pub upper_words : {A : Type 0} (under words : List A) (n count : ℕ) → n + count ≡ length words → reverse (drop (length under + count) (under ++ reverse words)) ≡ take n words
 upper_words under words n count e =
     ap reverse (drop-append-add under (reverse words) count ∙ sym (cut_is words n count e)) ∙ reverse-reverse (take n words)
-
-take_front : {A : Type 0} (front more : List A) (n : ℕ) → n ≡ length front → take n (front ++ more) ≡ front
-take_front front more n e = ap (λ (k : ℕ). take k (front ++ more)) e ∙ take-append_seam front more
 
 -- the words under a higher floor, and new ones above it
 pub put_back : {A : Type 0} (under upper lower new : List A) (n : ℕ) → n ≡ length under + length lower

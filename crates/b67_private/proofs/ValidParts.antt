@@ -2,7 +2,7 @@
 use Rattle.std.specs.Prelude.{reverse}
 use Rattle.std.proofs.Common.{◌≡◌, refl, sym, ap, ◌∙◌, true, length, Some, [], ℕ, arith}
 use Rattle.std.proofs.lemmas.List.{length-reverse}
-use Rattle.b67_table.proofs.Wordly.{All-reverse}
+use Rattle.b67_table.proofs.Wordly.{All_reverse}
 use Rattle.b67_list.specs.Numbered.{numbered}
 use Rattle.b67_word.specs.Word.{IsWord}
 use Rattle.b67_store.specs.Store.{words_of}
@@ -46,7 +46,7 @@ valid_whole code img p r v live has =
       base = 0;
       size = omega (arith, size, length-reverse (words_of img.stacks r.stack));
       room = own.room;
-      words = All-reverse IsWord (words_of img.stacks r.stack) (v.words r.stack);
+      words = All_reverse IsWord (words_of img.stacks r.stack) (v.words r.stack);
       seen = k.seen;
       level = own.display.known;
       mark = k.mark;

@@ -1,24 +1,13 @@
 -- The clocks stay clocks when an entry is noted.
 use Rattle.std.proofs.Common.{arith, ◌≡◌, ◌⊎◌, inl, inr, refl, sym, ap, ◌∙◌, subst, ℕ, ◌+◌, ◌<◌, ◌≤◌, ◌==◌, ◌||◌, Bool, true, false, List, [], ◌∷◌, length, if◌then◌else◌}
+use Rattle.b67_list.proofs.Numbers.{number_itself, number_other, same_number}
+use Rattle.b67_list.proofs.Truths.{or_left}
 use Rattle.b67_race.specs.Entries.{Signal, sets, frees, CellName, Done, is_this, entry_is_one_of, touches, IsNumberedEntry}
 use Rattle.b67_race.specs.Orders.{IsLastSignal, by_process, one, UpTo}
 use Rattle.b67_race.specs.Clocks.{IsKnown, IsBehind, ClockTells, Tracks, clock_joined, own_clock, Becomes, process_clock, ClocksStay}
 use Rattle.b67_race.proofs.Entries.{is_within, is_more, is_old, is_new, same_done, length_more}
 use Rattle.b67_race.proofs.Stable.{longer, ordered_are, up_more, up_old}
 use Rattle.b67_race.proofs.Tracking.{above_left, above_right, above_either, known_before, joined_all, joined_only, joined_within}
-
-pub same_number : (a b : ℕ) → (a == b) ≡ true → a ≡ b
-same_number a b e = grind (arith, e)
-
-pub eq_refl : (a : ℕ) → (a == a) ≡ true
-eq_refl a = grind arith
-
-other_number : (a b : ℕ) → (a == b) ≡ false → a ≡ b → ⊥
-other_number a b e p = grind (arith, e, p)
-
-pub or_left : (a b : Bool) → a ≡ true → (a || b) ≡ true
-or_left true b e = refl
-or_left false b e = cc
 
 module _ (ds : List Done) (x : Done) where
   -- the new entry, or an earlier one
@@ -41,9 +30,6 @@ module _ (ds : List Done) (x : Done) where
   module _ (of_process : ℕ → ℕ → ℕ) (set_by freed_by : CellName → ℕ → ℕ) (t : Tracks ds of_process set_by freed_by) where
     -- ---- the clock of the entry's own process tells the entries up to it
 
-    own : ℕ → ℕ
-    own = own_clock (length ds + 1) x of_process set_by freed_by
-
     own_at : (q : ℕ) (b : Bool) → (x.process == q) ≡ b → own_clock (length ds + 1) x of_process set_by freed_by q ≡ (if b then length ds + 1 else clock_joined x of_process set_by freed_by q)
     own_at q b e = ap (λ (c : Bool). if c then length ds + 1 else clock_joined x of_process set_by freed_by q) e
 
@@ -58,7 +44,7 @@ module _ (ds : List Done) (x : Done) where
         by false e (inl same) =
             let is_x : IsNumberedEntry (longer ds x) k x = subst (λ (n : ℕ). IsNumberedEntry (longer ds x) n x) (sym same) (is_new ds x) in
             let d_is_x : x ≡ d = same_done (longer ds x) k x d is_x is in
-            absurd (other_number x.process d.process e (ap (λ (y : Done). y.process) d_is_x))
+            absurd (number_other x.process d.process e (ap (λ (y : Done). y.process) d_is_x))
         by false e (inr o) =
             let less : k < length ds + 1 = (ordered_are (longer ds x) k (length ds + 1) o).less in
             let is_in : IsNumberedEntry ds k d = is_old ds (x ∷ []) k d (omega (arith, less)) is in
@@ -71,7 +57,7 @@ module _ (ds : List Done) (x : Done) where
         by true e within is_in =
             inr (one (by_process d x is (is_new ds x) (omega (arith, within))
             (or_left (d.process == x.process) (is_this d.started x.process || entry_is_one_of d.released x.process)
-            (subst (λ (p : ℕ). (d.process == p) ≡ true) (sym (same_number x.process d.process e)) (eq_refl d.process)))))
+            (subst (λ (p : ℕ). (d.process == p) ≡ true) (sym (same_number x.process d.process e)) (number_itself d.process)))))
         by false e within is_in =
             let m : k ≤ clock_joined x of_process set_by freed_by d.process = subst (λ (n : ℕ). k ≤ n) (own_at d.process false e) l in
             inr (joined_only ds x of_process set_by freed_by t k d is_in m)

@@ -18,14 +18,6 @@ use Rattle.b67_race.specs.Watching.{none_yet, watched}
 use Rattle.b67_race.specs.declared.cells.Past.{Past}
 use Rattle.b67_race.specs.Cells.{Standing, quiet, rival_in, standing_after, element_number_of, at_of, cell_at_key, is_cell, cell_order, standing, standing_in}
 
-abbrev pub is_setting : Signal → Bool
-is_setting (sets c) = true
-is_setting s = false
-
-abbrev pub is_freeing : Signal → Bool
-is_freeing (frees c) = true
-is_freeing s = false
-
 -- the order of keys
 abbrev pub key_order : Key → Key → Ordering
 key_order k l = ordering_then (nat_cmp k.instance l.instance) (ordering_then (nat_cmp k.element l.element) (slice_cmp nat_cmp k.name.now l.name.now))
@@ -129,10 +121,6 @@ pub put_own : (k : Key) (old new : BTreeMap Key Kept) (s : Standing) → ((c : C
     → standing_in new (cell_at_key k) ≡ s
 put_own k old new s h = h (cell_at_key k) ∙ ap (λ (b : Bool). if b then s else standing_in old (cell_at_key k)) (is_own_cell k)
 
-pub put_others : (k : Key) (old new : BTreeMap Key Kept) (s : Standing) → ((c : CellName) → standing_in new c ≡ (if is_cell k c then s else standing_in old c))
-    → (c : CellName) → is_cell k c ≡ false → standing_in new c ≡ standing_in old c
-put_others k old new s h c other = h c ∙ ap (λ (b : Bool). if b then s else standing_in old c) other
-
 -- ---- clocks of events
 
 -- the clocks after another one at a key
@@ -176,10 +164,3 @@ frees_same c d e = ap cell_in e
     cell_in : Signal → CellName
     cell_in (frees x) = x
     cell_in _ = c
-
--- what an entry does not do changes no clock
-pub not_set : (s : Signal) (c : CellName) → is_setting s ≡ false → s ≡ sets c → ⊥
-not_set s c e f = let g : true ≡ false = sym (ap is_setting f) ∙ e in cc
-
-pub not_freed : (s : Signal) (c : CellName) → is_freeing s ≡ false → s ≡ frees c → ⊥
-not_freed s c e f = let g : true ≡ false = sym (ap is_freeing f) ∙ e in cc

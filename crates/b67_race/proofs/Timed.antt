@@ -1,7 +1,6 @@
 -- Clocks of processes.
 use Rattle.std.proofs.Common.{arith, ◌≡◌, refl, ap, sym, ◌∙◌, ℕ, zero, suc, ◌<◌, ◌==◌, max, ◌||◌, Bool, true, false, List, [], ◌∷◌, ◌++◌, length, if◌then◌else◌, get_or, slice_set}
 use Rattle.b67_race.specs.Entries.{entry_is_one_of}
-use Rattle.b67_race.specs.Clocks.{process_clock}
 use Rattle.b67_race.specs.Times.{time_of}
 use Rattle.b67_race.specs.Timed.{time_in, joined_if}
 
@@ -70,12 +69,3 @@ joined_again qs process p old own now next a b =
     by true false e = e
     by false true e = ap (λ (n : ℕ). max n own) e
     by false false e = e
-
--- the clock of a process after the joins
-pub clock_noted : (own_process released started : Bool) (old own a b c : ℕ) → a ≡ joined_if released old own → b ≡ joined_if started a own
-    → c ≡ (if own_process then own else b) → c ≡ process_clock own_process (own_process || (started || released)) (λ (q : ℕ). own) (λ (q : ℕ). old) 0
-clock_noted true r s old own a b c e f g = g
-clock_noted false true true old own a b c e f g = omega (arith, e, f, g)
-clock_noted false false true old own a b c e f g = g ∙ f ∙ ap (λ (n : ℕ). max n own) e
-clock_noted false true false old own a b c e f g = g ∙ f ∙ e
-clock_noted false false false old own a b c e f g = g ∙ f ∙ e

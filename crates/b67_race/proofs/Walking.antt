@@ -115,9 +115,6 @@ module _ (ds : List Done) (x : Done) where
       next : WatchNext ds x a.cell a.storing (clock_joined x of_process set_by freed_by)
       next = (e, clocks_tell ds x of_process set_by freed_by h.tracks)
 
-      found : List Race
-      found = race_by (rival_in a.storing (clock_joined x of_process set_by freed_by) (cells a.cell)) (length ds + 1) a.cell
-
       elsewhere : (c : CellName) → (c ≡ a.cell → ⊥) → Elsewhere x c
       elsewhere c other storing b =
           let q : Some a ≡ Some (record { cell = c; storing = storing }) = sym e ∙ b in

@@ -1,5 +1,7 @@
 -- The races of a cell when an entry is added.
 use Rattle.std.proofs.Common.{arith, ◌≡◌, ◌≢◌, ◌⊎◌, inl, inr, refl, sym, ap, ◌∙◌, subst, ℕ, ◌+◌, ◌<◌, ◌≤◌, ◌==◌, ◌||◌, Bool, true, false, List, [], ◌∷◌, ◌++◌, length, Option, Some, None}
+use Rattle.b67_list.proofs.Numbers.{number_itself}
+use Rattle.b67_list.proofs.Truths.{or_left}
 use Rattle.b67_race.specs.Entries.{CellName, Access, Done, is_this, entry_is_one_of, IsNumberedEntry}
 use Rattle.b67_race.specs.Orders.{Ordered, one, chain, by_process, UpTo}
 use Rattle.b67_race.specs.Racing.{Touches, Conflict, IsRace}
@@ -7,7 +9,7 @@ use Rattle.b67_race.specs.declared.cells.Past.{Past}
 use Rattle.b67_race.specs.Watching.{IsInPast, Watch, rivals, latest, read_noted, watched, IsRival, IsCovered, Covers, Watches, WatchNext, LatestMakeRaces, WatchesStay, Elsewhere, OthersStay, RacesStay, CellsHaveOne}
 use Rattle.b67_race.proofs.Entries.{is_least, is_within, is_more, is_old, is_new, same_done}
 use Rattle.b67_race.proofs.Stable.{longer, ordered_are, ordered_more, ordered_old, up_more}
-use Rattle.b67_race.proofs.Keeping.{eq_refl, or_left, new_or_old}
+use Rattle.b67_race.proofs.Keeping.{new_or_old}
 use Rattle.b67_race.proofs.Rivals.{in_left, in_right, in_either, latest_bounds, latest_is, noted_now, noted_is, noted_all}
 
 ordered_on : (ds : List Done) (k i j : ℕ) → Ordered ds k i → Ordered ds i j → Ordered ds k j
@@ -85,7 +87,7 @@ module _ (ds : List Done) (x : Done) where
         let within : k ≤ length ds = is_within ds k d is in
         one (by_process d x (is_more ds (x ∷ []) k d is) (is_new ds x) (omega (arith, within))
         (or_left (d.process == x.process) (is_this d.started x.process || entry_is_one_of d.released x.process)
-        (subst (λ (p : ℕ). (d.process == p) ≡ true) same (eq_refl d.process))))
+        (subst (λ (p : ℕ). (d.process == p) ≡ true) same (number_itself d.process))))
 
     -- an access that its clock does not tell
     apart_of : (y : Past) → IsRival ds c storing y → clock y.process < y.entry → Conflict (longer ds x) c y.entry (length ds + 1)
@@ -184,9 +186,6 @@ module _ (ds : List Done) (x : Done) where
           by : Ordered (longer ds x) i (length ds + 1) ⊎ (i ≤ latest clock (rivals storing w)) → Ordered (longer ds x) i (length ds + 1)
           by (inl o) = o
           by (inr l) = let least : 1 ≤ i = is_least ds i d t.is in absurd (omega (arith, l, least, none))
-
-      now : Past
-      now = record { entry = length ds + 1; process = x.process }
 
       now_rival : (kind : Bool) → (storing ≡ true) ⊎ (kind ≡ true) → IsRival (longer ds x) c kind (record { entry = length ds + 1; process = x.process })
       now_rival kind e = record { done = x; stores = storing; is = is_next; process = refl; either = e }

@@ -1,37 +1,26 @@
 -- One entry more.
-use Rattle.std.proofs.Common.{arith, ◌≡◌, refl, ap, sym, ◌∙◌, subst, ℕ, zero, suc, ◌+◌, ◌<◌, List, [], ◌∷◌, ◌++◌, Bool, true, false, length, replicate, get_or, drop, Option, Some, None, if◌then◌else◌, append_assoc, append-nil, not, ◌-◌}
+use Rattle.std.proofs.Common.{arith, ◌≡◌, refl, ap, sym, ◌∙◌, subst, ℕ, zero, suc, ◌+◌, ◌<◌, List, [], ◌∷◌, ◌++◌, Bool, true, false, length, replicate, get_or, drop, Option, Some, None, append_assoc, append-nil, ◌-◌}
 use Rattle.algol_tree.specs.Plain.{PProgram}
 use Rattle.algol_tree.specs.Scopes.{Scopes, scopes_of}
 use Rattle.algol_meaning.specs.World.{World}
 use Rattle.algol_meaning.specs.Choice.{choice}
-use Rattle.algol_meaning.specs.Run.{may_go, after_entry, run, run_from, start}
+use Rattle.algol_meaning.specs.Run.{after_entry, run, run_from, start}
+use Rattle.algol_meaning.proofs.Cited.{after_is, entry_is, no_world, run_none, stays_none}
 use Rattle.algol_seen.specs.Accesses.{done_of}
 use Rattle.algol_seen.specs.Seen.{told_done, ProcessIsSeen}
 use Rattle.algol_seen.specs.declared.seen.Seen.{Seen}
 use Rattle.algol_lean.specs.Beside.{RunsBeside, SeenBeside}
+use Rattle.algol_lean.proofs.InUse.{run_is}
 use Rattle.b67_race.specs.Entries.{Done}
 use Rattle.b67_race.specs.Noted.{StandsAfter}
 use Rattle.b67_race.specs.declared.walk.Walk.{Walk}
 use Rattle.b67_schedule.specs.declared.Run.{Run}
 use Rattle.b67_schedule.specs.Schedules.{entries}
-use Rattle.b67_judge.proofs.Steps.{run_none, run_append, entries_drop}
+use Rattle.b67_schedule.proofs.Cited.{entries_drop}
+use Rattle.b67_judge.proofs.Steps.{run_append}
 use Rattle.b67_race.specs.Races.{Race, AreRaces}
-use Rattle.b67_judge.proofs.Verdicts.{run_is}
 use Rattle.b67_races.specs.Schedules.{all_done_from, AreRacesOf}
 use Rattle.b67_races.specs.Walking.{ScheduleStands, WorldGoes}
-
--- the world after an entry that may go
-after_is : (sc : Scopes) (w : World) (p : ℕ) (h : List ℕ) (v : World) → run_from sc (p ∷ h) (Some w) ≡ Some v → run_from sc h (Some ((choice sc w p).world)) ≡ Some v
-unfolding after_entry
-after_is sc w p h v e = by (may_go w p) e
-  where
-    none : (h : List ℕ) → run_from sc h None ≡ None
-    none [] = refl
-    none (q ∷ h) = refl
-
-    by : (b : Bool) → run_from sc h (if b then Some ((choice sc w p).world) else None) ≡ Some v → run_from sc h (Some ((choice sc w p).world)) ≡ Some v
-    by true f = f
-    by false f = let g : None ≡ Some v = sym (none h) ∙ f in cc
 
 pub done_more : (sc : Scopes) (h : List ℕ) (p : ℕ) (w v : World) → run_from sc h (Some w) ≡ Some v → all_done_from sc w (h ++ p ∷ []) ≡ all_done_from sc w h ++ done_of sc v p ∷ []
 done_more sc [] p w v e = let same : w ≡ v = value e in ap (λ (u : World). done_of sc u p ∷ []) same
@@ -41,15 +30,6 @@ done_more sc [] p w v e = let same : w ≡ v = value e in ap (λ (u : World). do
 done_more sc (q ∷ h) p w v e = ap (λ (ds : List Done). done_of sc w q ∷ ds) (done_more sc h p ((choice sc w q).world) v (after_is sc w q h v e))
 
 -- ---- where a walk stands
-
--- the world after an entry that goes
-entry_is : (sc : Scopes) (v after : World) (p : ℕ) → may_go v p ≡ true → after ≡ (choice sc v p).world → after_entry sc v p ≡ Some after
-unfolding after_entry
-entry_is sc v after p may same = ap (λ (b : Bool). if b then Some ((choice sc v p).world) else None) may ∙ ap (λ (u : World). Some u) (sym same)
-
-stays_none : (sc : Scopes) (v : World) (p : ℕ) → may_go v p ≡ false → after_entry sc v p ≡ None
-unfolding after_entry
-stays_none sc v p e = ap (λ (b : Bool). if b then Some ((choice sc v p).world) else None) e
 
 module _ (sc : Scopes) (w : World) (given : List ℕ) (now after : World) (walk later : Walk) (p : ℕ) (left : List ℕ) (s : ScheduleStands sc w given now walk (p ∷ left)) where
   -- an entry that goes is noted
@@ -100,9 +80,6 @@ module _
       (subst (λ (k : Scopes). ScheduleStands k w given now walk (p ∷ (replicate (n - 1) p ++ left))) (sym same)
       (subst (λ (xs : List ℕ). ScheduleStands sc w given now walk xs) (split_one n p left more) s)))
 
-  pub one_goes : b ≡ true → ScheduleStands sc w given after later (replicate (n - 1) p ++ left)
-  one_goes e = subst (λ (c : Bool). WorldGoes sc w given after later (replicate (n - 1) p ++ left) c) e one_more
-
   pub one_stops : b ≡ false → run_from sc given (Some w) ≡ None
   one_stops e = subst (λ (c : Bool). WorldGoes sc w given after later (replicate (n - 1) p ++ left) c) e one_more
 
@@ -122,24 +99,10 @@ module _
       (subst (λ (k : Scopes). ScheduleStands k w given now walk (replicate ((get_or items i d).times) ((get_or items i d).process) ++ entries (drop (i + 1) runs))) (sym same)
       (subst (λ (xs : List ℕ). ScheduleStands sc w given now walk xs) this_run s)))
 
-  pub run_goes : b ≡ true → ScheduleStands sc w given after later (entries (drop (i + 1) runs))
-  run_goes e = subst (λ (c : Bool). WorldGoes sc w given after later (entries (drop (i + 1) runs)) c) e run_more
-
   pub run_stops : b ≡ false → run_from sc given (Some w) ≡ None
   run_stops e = subst (λ (c : Bool). WorldGoes sc w given after later (entries (drop (i + 1) runs)) c) e run_more
 
-pub is_false : (b : Bool) → not b ≡ true → b ≡ false
-is_false true e = sym e
-is_false false e = refl
-
-pub is_true : (b : Bool) → not b ≡ false → b ≡ true
-is_true true e = refl
-is_true false e = sym e
-
 -- ---- a whole schedule
-
-no_world : {v : World} → None ≡ Some v → ⊥
-no_world e = cc
 
 module _ (tree : PProgram) (h : List ℕ) (now after : World) (walk : Walk) (rs : List Race) (legal : run tree h ≡ Some after) (found : (ds : List Done) → StandsAfter ds walk → AreRaces ds rs) where
   races_so : (b : Bool) → WorldGoes (scopes_of tree) (start (scopes_of tree)) h now walk [] b → AreRacesOf tree h rs

@@ -102,7 +102,7 @@ pub tells_then : {A B : Type 0} (t : Test A) (next : A → Test B) (a : A) (stac
     → TestTells t stacks rows (Ok a) → TestTells (next a) stacks rows r → TestTells (t >>= next) stacks rows r
 tells_then t next a stacks rows r x y = record { told = λ img e f. ap whole_outcome (asked_on img t next a (x.told img e f)) ∙ y.told img e f }
 
-stops_test : {A B : Type 0} (img : Image) (e : Effect A) (next : A → Test B) (stop : Stop) → whole_outcome e ≡ stopped stop
+pub stops_test : {A B : Type 0} (img : Image) (e : Effect A) (next : A → Test B) (stop : Stop) → whole_outcome e ≡ stopped stop
     → whole_outcome (after_test img e next) ≡ stopped stop
 stops_test img (effects.gives a) next (Interrupt kind) e = cc
 stops_test img (effects.gives a) next (Fault kind) e = cc

@@ -1,19 +1,19 @@
 -- Accidental entry: the code of an actual is entered where VALC or EVAL reaches its control word. Its frame lies above the words of the part
 -- that waits, and has no cells; a selector lies on it where the code may give a place.
 use Rattle.std.proofs.Common.{◌≡◌, refl, sym, ap, ◌∙◌, ℕ, ◌+◌, ◌-◌, ◌<◌, List, [], ◌∷◌, ◌++◌, length, take, Option, Some, Bool, true, false, Ok, arith, append_assoc, length-append}
+use Rattle.b67_list.proofs.Numbers.{ltb_less}
 use Rattle.b67_rows.proofs.Prelude.{if◌then◌else◌, nat_lt, reverse, NotAVariable, Read, Resolve, Enter, Word, Place, as_pcw, as_rcw, place_at, Pcw, Rcw, Registers, Couple, Code, Stacks, word_at, with_stack, with_cut, place, linked, Effect, gives, Image, with_stacks, with_registers, end_of_code, control_word, entered_mark, if_fits, is_home, if_home, entered, accidental, Look, found, stops, ◌>->◌, read_as, look_seen, pushed, frame, at_or, Program, Change, done, changed, effect_of, asked, see, answer, fault, ◌>>=◌, cut, registers, couple_cell, cell_of, invalid, value_or_entry, cell_or_entry, Cell, Entry, BadCode, then_seen, see_found, entered_or, operator_letter, Core, IsCore, HasCore, with_core, stack_of}
 use Rattle.b67_ops.specs.declared.Operator.TheVariants as ops
 use Rattle.b67_ops.specs.declared.PlainKind.TheVariants as kinds
 use Rattle.b67_table.specs.Linkage.{entering, selected}
 use Rattle.b67_table.specs.Program.{push}
 use Rattle.b67_table.specs.Table.{raw}
-use Rattle.b67_rows.proofs.EnterRow.{below_is}
 use Rattle.b67_rows.proofs.EntryRow.{lower_of}
 use Rattle.b67_rows.proofs.Reaching.{Reaches}
 use Rattle.b67_rows.proofs.PlaceRow.{place_reached, place_reached_letter}
 use Rattle.b67_rows.proofs.ReachingRows.{value_reached, value_reached_letter}
 use Rattle.b67_rows.proofs.Rows.{words_are}
-use Rattle.b67_rows.proofs.StackWords.{cut-stack, length-stack}
+use Rattle.b67_rows.proofs.StackWords.{cut_stack, length_stack}
 use Rattle.b67_rows.proofs.TopRow.{pushed_do}
 use Rattle.b67_rows.proofs.AtOperator.{AtOperator}
 
@@ -66,7 +66,7 @@ module _ (img : Image) (p : ℕ) (core : Core) (has : HasCore img p core) (next 
   control = control_word r next c.level
 
   height : r.s - length taken ≡ at
-  height = omega (arith, has.is.top, ap length e.parted, length-append taken words, length-stack core.below words)
+  height = omega (arith, has.is.top, ap length e.parted, length-append taken words, length_stack core.below words)
 
   abbrev entry_of : Entry
   entry_of = record { home = home; display = display }
@@ -76,8 +76,8 @@ module _ (img : Image) (p : ℕ) (core : Core) (has : HasCore img p core) (next 
 
   entering_seen : look_seen img.stacks (entering r next (nat_lt r.f at) at c (Some home)) ≡ Ok entry_of
   entering_seen =
-      ap (λ (b : Bool). look_seen img.stacks (if b then if_fits (nat_lt r.f at) (if_home (Some home) c.level linking) else stops BadCode)) (below_is next end_of_code e.returns)
-      ∙ ap (λ (b : Bool). look_seen img.stacks (if_fits b (if_home (Some home) c.level linking))) (below_is r.f at e.newer)
+      ap (λ (b : Bool). look_seen img.stacks (if b then if_fits (nat_lt r.f at) (if_home (Some home) c.level linking) else stops BadCode)) (ltb_less next end_of_code e.returns)
+      ∙ ap (λ (b : Bool). look_seen img.stacks (if_fits b (if_home (Some home) c.level linking))) (ltb_less r.f at e.newer)
       ∙ ap (λ (o : Option Rcw). look_seen img.stacks (if_fits (is_home o c.level) (linking home))) e.outer_reads
       ∙ ap (λ (b : Bool). look_seen img.stacks (if_fits b (linking home))) e.is_home
       ∙ then_seen img.stacks (linked (place r.stack at) home c.level) display (λ (d : List (Option Place)). found (record { home = home; display = d })) e.linked
@@ -90,7 +90,7 @@ module _ (img : Image) (p : ℕ) (core : Core) (has : HasCore img p core) (next 
   cut_there : with_cut img.stacks r.stack at ≡ with_stack img.stacks r.stack lower
   cut_there =
       ap (λ (ws : List Word). with_stack img.stacks r.stack (take at ws)) (words_are img p core has ∙ ap (λ (ws : List Word). core.below ++ reverse ws) e.parted)
-      ∙ ap (λ (ws : List Word). with_stack img.stacks r.stack ws) (cut-stack core.below taken words at (length-stack core.below words))
+      ∙ ap (λ (ws : List Word). with_stack img.stacks r.stack ws) (cut_stack core.below taken words at (length_stack core.below words))
 
   abbrev pub evaluation : Core
   evaluation = with_evaluation core words next c home display selector

@@ -1,6 +1,8 @@
 -- The actuals of a block keep to its text. So does what a part has still to do that evaluates one of them.
 use Rattle.std.proofs.Common.{◌≡◌, refl, subst, ℕ, zero, suc, List, [], ◌∷◌, ◌++◌, Some, Bool, true, false, append_assoc, map}
-use Rattle.b67_rows.proofs.Prelude.{AllByRecursion, if◌then◌else◌, is_some, slice_get, Block, block_numbered, PExpr, PExprs, PPair, PStmt, PStmts, PDecls, PBody, Scopes, use_of, procedure_in, EventName, Kind, Named, Item, event_items, decls_items, items, ending, BlockIsSeen, IsSeenAround, IsInner, KeepsToText, InStmt, InStmts, InItems, InDeclared, Couple, Wanted, value, by_name, array, other, Actual, own_actual, wants_of, actuals_in, actuals_among, actuals_given, actuals_in_pairs, actuals_in_decls, actuals_in_stmt, actuals_in_stmts, actuals_of, IsOwnActual, IsText, true_false, some_same, none_some}
+use Rattle.b67_list.proofs.Numbers.{none_some}
+use Rattle.b67_list.proofs.Truths.{true_false}
+use Rattle.b67_rows.proofs.Prelude.{AllByRecursion, if◌then◌else◌, is_some, slice_get, Block, block_numbered, PExpr, PExprs, PPair, PStmt, PStmts, PDecls, PBody, Scopes, use_of, procedure_in, EventName, Kind, Named, Item, event_items, decls_items, items, ending, BlockIsSeen, IsSeenAround, IsInner, KeepsToText, InStmt, InStmts, InItems, InDeclared, Couple, Wanted, value, by_name, array, other, Actual, own_actual, wants_of, actuals_in, actuals_among, actuals_given, actuals_in_pairs, actuals_in_decls, actuals_in_stmt, actuals_in_stmts, actuals_of, IsOwnActual, IsText, some_same}
 use Rattle.algol_tree.specs.Plain as tree
 use Rattle.algol_meaning.specs.Asks.{evaluated_of, located_of}
 use Rattle.algol_meaning.specs.Rest.{Half, val, busy, HalfPlace, at, aims}

@@ -1,7 +1,8 @@
 -- The code of an actual needs no more words than two for each token of the text in which the actual stands. So they have room above the
 -- control words of that block.
 use Rattle.std.proofs.Common.{◌≡◌, subst, ℕ, zero, suc, ◌+◌, ◌*◌, ◌≤◌, ◌++◌, Bool, true, false, List, [], ◌∷◌, length, Some, arith}
-use Rattle.b67_rows.proofs.Prelude.{if◌then◌else◌, is_some, slice_get, Block, expr_tokens, exprs_tokens, pairs_tokens, stmt_tokens, stmts_tokens, decls_tokens, PExpr, PExprs, PPair, PStmt, PStmts, PDecls, Scopes, use_of, procedure_in, arguments_in_decls, arguments_in_stmt, arguments_in_stmts, Wanted, value, by_name, array, other, Actual, procedures, own_actual, wants_of, actuals_in, actuals_among, actuals_given, actuals_in_pairs, actuals_in_decls, actuals_in_stmt, actuals_in_stmts, actuals_of, depth, some_same, none_some}
+use Rattle.b67_list.proofs.Numbers.{none_some}
+use Rattle.b67_rows.proofs.Prelude.{if◌then◌else◌, is_some, slice_get, Block, expr_tokens, exprs_tokens, pairs_tokens, stmt_tokens, stmts_tokens, decls_tokens, PExpr, PExprs, PPair, PStmt, PStmts, PDecls, Scopes, use_of, procedure_in, arguments_in_decls, arguments_in_stmt, arguments_in_stmts, Wanted, value, by_name, array, other, Actual, procedures, own_actual, wants_of, actuals_in, actuals_among, actuals_given, actuals_in_pairs, actuals_in_decls, actuals_in_stmt, actuals_in_stmts, actuals_of, depth, some_same}
 use Rattle.algol_tree.specs.Plain as tree
 use Rattle.b67_templates.specs.Cells.{event}
 use Rattle.b67_rows.proofs.Weighing.{depth_small, arguments_small, among_small, given_small, bounds_arguments}

@@ -1,26 +1,22 @@
 -- An image with a process more: what it has, and that all others have what they had.
 use Rattle.std.proofs.Common.{◌≡◌, ◌≢◌, refl, sym, ap, ◌∙◌, ℕ, zero, suc, ◌+◌, ◌≤◌, List, [], ◌∷◌, ◌++◌, length, Some, arith, append-nil}
-use Rattle.b67_rows.proofs.Prelude.{slice_get, numbered, set_numbered, Word, Registers, opened_others, Stacks, stack_at, get_within, Image, Core, IsCore, HasCore, stack_of, with_core}
+use Rattle.b67_list.proofs.Lists.{get_within}
+use Rattle.b67_rows.proofs.Prelude.{numbered, set_numbered, Word, Registers, opened_others, Stacks, stack_at, Image, Core, IsCore, HasCore, stack_of, with_core}
 use Rattle.b67_store.specs.Store.{opened_at}
 use Rattle.b67_store.proofs.StoreLaws.{opened_here}
 use Rattle.b67_table.specs.Image.{is_live}
 use Rattle.b67_table.specs.declared.ProcessState.TheVariants.{Able}
 use Rattle.b67_table.proofs.Stacks.{open_set_other}
 use Rattle.b67_table.proofs.EventKept.{within_of}
+use Rattle.b67_table.proofs.Begun.{others_are}
 use Rattle.b67_rows.proofs.Growing.{numbered_last}
-use Rattle.b67_rows.proofs.StackWords.{set-front}
+use Rattle.b67_rows.proofs.StackWords.{set_front}
 
 -- ---- one more at the end of a list
 
-get_others : {A : Type 0} (xs : List A) (x : A) (k : ℕ) → k ≢ length xs → slice_get (xs ++ x ∷ []) k ≡ slice_get xs k
-get_others [] x zero h = absurd (h refl)
-get_others [] x (suc k) h = refl
-get_others (y ∷ ys) x zero h = refl
-get_others (y ∷ ys) x (suc k) h = get_others ys x k (λ e. h (ap suc e))
-
 pub numbered_else : {A : Type 0} (xs : List A) (x : A) (n : ℕ) → n ≢ length xs + 1 → numbered (xs ++ x ∷ []) n ≡ numbered xs n
 numbered_else xs x zero h = refl
-numbered_else xs x (suc k) h = get_others xs x k (λ e. h (omega (arith, e)))
+numbered_else xs x (suc k) h = others_are xs x k (λ e. h (omega (arith, e)))
 
 pub numbered_few : {A : Type 0} (xs : List A) (n : ℕ) (x : A) → numbered xs n ≡ Some x → (1 ≤ n) × (n ≤ length xs)
 numbered_few xs zero x e = cc
@@ -28,7 +24,7 @@ numbered_few xs (suc k) x e = (omega arith, let low = get_within xs k x e in ome
 
 pub set_numbered_front : {A : Type 0} (xs ys : List A) (n : ℕ) (x y : A) → numbered xs n ≡ Some y → set_numbered (xs ++ ys) n x ≡ set_numbered xs n x ++ ys
 set_numbered_front xs ys zero x y e = cc
-set_numbered_front xs ys (suc k) x y e = set-front xs ys k x y e
+set_numbered_front xs ys (suc k) x y e = set_front xs ys k x y e
 
 -- ---- the image
 
@@ -50,9 +46,6 @@ abbrev pub core_of : Registers → List Word → Core
 core_of r words = record { below = words; words = []; registers = r }
 
 module _ (img : Image) (r : Registers) (words : List Word) (next : r.stack ≡ length img.states + 1) (many : length img.regs ≡ length img.states) where
-  abbrev new : Image
-  new = with_process img r words
-
   regs_next : r.stack ≡ length img.regs + 1
   regs_next = omega (arith, next, many)
 

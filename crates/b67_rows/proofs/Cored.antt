@@ -1,7 +1,9 @@
 -- An image with another core of a process.
 use Rattle.std.proofs.Common.{◌≡◌, ◌≢◌, refl, sym, ap, ◌∙◌, ℕ, zero, suc, List, [], ◌∷◌, Some}
-use Rattle.b67_rows.proofs.Prelude.{numbered, Process, World, Word, Stacks, stack_at, with_stack, Image, Core, IsCore, HasCore, with_core, stack_of, none_some}
-use Rattle.b67_rows.proofs.Numbers.{numbered_set, numbered_other}
+use Rattle.b67_list.proofs.Numbered.{numbered_set}
+use Rattle.b67_list.proofs.Numbers.{none_some}
+use Rattle.b67_rows.proofs.Prelude.{numbered, Process, World, Word, Stacks, stack_at, with_stack, Image, Core, IsCore, HasCore, with_core, stack_of}
+use Rattle.b67_rows.proofs.Numbers.{numbered_other}
 
 pub stack_set : (stacks : Stacks) (n : ℕ) (ws vs : List Word) → stack_at stacks n ≡ Some ws → stack_at (with_stack stacks n vs) n ≡ Some vs
 stack_set [] n ws vs e = cc

@@ -1,8 +1,9 @@
 -- On which frame a process depends that is started: the first of those that it refers to, on the path down from the frame of its starter.
 use Rattle.std.proofs.Common.{◌≡◌, ◌⊎◌, inl, inr, refl, sym, ap, ◌∙◌, ℕ, zero, suc, ◌+◌, ◌<◌, ◌≤◌, List, [], ◌∷◌, Option, Some, Bool, true, false, Ok, arith}
-use Rattle.b67_rows.proofs.Prelude.{nat_tests, if◌then◌else◌, ◌||◌, nat_eq, Place, frame_below, gives, Image, critical_of, look_seen, Test, answer, asked, ◌>>=◌, see, on_path, see_found}
+use Rattle.b67_list.proofs.Truths.{or_either, or_left, or_right}
+use Rattle.b67_rows.proofs.Prelude.{nat_tests, if◌then◌else◌, nat_eq, Place, frame_below, gives, Image, critical_of, look_seen, Test, answer, asked, ◌>>=◌, see, on_path, see_found}
 use Rattle.b67_events.specs.Events.{same_place}
-use Rattle.b67_events.proofs.Listed.{same_place-true, same_place-self}
+use Rattle.b67_events.proofs.Listed.{same_place_true, same_place_self}
 use Rattle.b67_table.specs.Program.{critical}
 use Rattle.b67_table.specs.Starting.{is_among, down, or_none}
 use Rattle.b67_rows.proofs.LeaveRow.{not_zero}
@@ -13,21 +14,9 @@ abbrev pub IsAmongPlaces : List Place → Place → Type 0
 IsAmongPlaces [] f = ⊥
 IsAmongPlaces (x ∷ places) f = (x ≡ f) ⊎ IsAmongPlaces places f
 
-or_left : (a b : Bool) → a ≡ true → (a || b) ≡ true
-or_left true b e = refl
-or_left false b e = cc
-
-or_right : (a b : Bool) → b ≡ true → (a || b) ≡ true
-or_right true b e = refl
-or_right false b e = e
-
-or_either : (a b : Bool) → (a || b) ≡ true → (a ≡ true) ⊎ (b ≡ true)
-or_either true b e = inl refl
-or_either false b e = inr e
-
 pub among_true : (places : List Place) (f : Place) → IsAmongPlaces places f → is_among places f ≡ true
 among_true [] f there = absurd there
-among_true (x ∷ places) f (inl same) = or_left (same_place f x) (is_among places f) (same_place-self f x (sym same))
+among_true (x ∷ places) f (inl same) = or_left (same_place f x) (is_among places f) (same_place_self f x (sym same))
 among_true (x ∷ places) f (inr later) = or_right (same_place f x) (is_among places f) (among_true places f later)
 
 pub among_back : (places : List Place) (f : Place) → is_among places f ≡ true → IsAmongPlaces places f
@@ -35,7 +24,7 @@ among_back [] f e = cc
 among_back (x ∷ places) f e = by (or_either (same_place f x) (is_among places f) e) (λ later. among_back places f later)
   where
     by : (same_place f x ≡ true) ⊎ (is_among places f ≡ true) → (is_among places f ≡ true → IsAmongPlaces places f) → IsAmongPlaces (x ∷ places) f
-    by (inl same) back = inl (sym (same_place-true f x same))
+    by (inl same) back = inl (sym (same_place_true f x same))
     by (inr later) back = inr (back later)
 
 pub among_false : (places : List Place) (f : Place) → (IsAmongPlaces places f → ⊥) → is_among places f ≡ false

@@ -1,6 +1,6 @@
 -- Words of a stack that are read as descriptors, or as whole numbers.
 use Rattle.std.proofs.Common.{◌≡◌, refl, sym, ◌∙◌, ℕ, ◌+◌, Some, None, Bool, true, false}
-use Rattle.b67_rows.proofs.Prelude.{Word, Place, irw_laws, as_sirw-other, descriptor_laws, as_irw, as_sirw, as_descriptor, Descriptor, Irw, Registers, Sirw, word_at, is_array_descriptor, place, Image, display_at, cell_place, sirw_cell}
+use Rattle.b67_rows.proofs.Prelude.{Word, Place, irw_laws, as_sirw_other, descriptor_laws, as_irw, as_sirw, as_descriptor, Descriptor, Irw, Registers, Sirw, word_at, is_array_descriptor, place, Image, display_at, cell_place, sirw_cell}
 use Rattle.b67_rows.proofs.Touching.{NearCell}
 
 -- a descriptor is no reference
@@ -14,7 +14,7 @@ is_descriptor w d e =
     record {
       reads = e;
       no_irw = irw_laws.other w (λ k. let is = sym (descriptor_laws.kind w d e) ∙ k in cc);
-      no_sirw = as_sirw-other w (λ k. let is = sym (descriptor_laws.kind w d e) ∙ k in cc);
+      no_sirw = as_sirw_other w (λ k. let is = sym (descriptor_laws.kind w d e) ∙ k in cc);
     }
 
 -- an array, not indexed

@@ -1,13 +1,11 @@
 -- The links from a frame down to the system's stack, and the display that is made along them.
 use Rattle.std.proofs.Common.{◌≡◌, refl, ap, ◌∙◌, ℕ, zero, suc, ◌+◌, ◌-◌, ◌≤◌, List, [], ◌∷◌, length, Option, Some, None, Bool, true, Ok, arith}
-use Rattle.b67_rows.proofs.Prelude.{nat_tests, if◌then◌else◌, ◌==◌, slice_get, Place, as_mscw, as_rcw, place_at, Mscw, Rcw, Stacks, word_at, place, mark_at, control_at, link_of, linked, rebuilt, chain_broken, Look, found, ◌>->◌, chained, read_as, look_seen}
+use Rattle.b67_list.proofs.Numbers.{number_told}
+use Rattle.b67_rows.proofs.Prelude.{if◌then◌else◌, slice_get, Place, as_mscw, as_rcw, place_at, Mscw, Rcw, Stacks, word_at, place, mark_at, control_at, link_of, linked, rebuilt, chain_broken, Look, found, ◌>->◌, chained, read_as, look_seen}
 use Rattle.std.specs.Prelude.{slice_index_or, replicate}
 use Rattle.b67_control.specs.Display.{levels}
 use Rattle.b67_table.specs.Chains.{if_own, links}
 use Rattle.b67_rows.proofs.StoreRow.{most_is}
-
-pub same_is : (m n : ℕ) → m ≡ n → (m == n) ≡ true
-same_is m n h = grind (arith, nat_tests)
 
 -- a mark that is entered and linked to its home
 abbrev pub entered_to : Place → ℕ → Mscw
@@ -38,7 +36,7 @@ module _ {stacks : Stacks} where
   links_seen link (f ∷ more) known (onward {home = home} e l) =
       ap (λ (o : Option Mscw). look_seen stacks (chained o >-> with_mark >-> go_on)) e.marked
       ∙ ap (λ (o : Option Rcw). look_seen stacks (chained o >-> (λ (c : Rcw). if_own (length more + 2) (entered_to home e.df) c) >-> go_on)) e.controlled
-      ∙ ap (λ (b : Bool). look_seen stacks ((if b then found (entered_to home e.df) else chain_broken) >-> go_on)) (same_is (e.control.own_level) (length more + 2) e.level_is)
+      ∙ ap (λ (b : Bool). look_seen stacks ((if b then found (entered_to home e.df) else chain_broken) >-> go_on)) (number_told (e.control.own_level) (length more + 2) e.level_is)
       ∙ links_seen home more (Some link ∷ known) l
     where
       go_on : Mscw → Look (List (Option Place))
@@ -56,19 +54,19 @@ shown top frames = Some (place 0 0) ∷ None ∷ onto frames (Some top ∷ repli
 abbrev nth : List (Option Place) → ℕ → Option Place
 nth places n = slice_index_or places n None
 
-above-onto : (frames : List Place) (known : List (Option Place)) (k n : ℕ) → n ≡ length frames + k → nth (onto frames known) n ≡ nth known k
-above-onto [] known k n e = let e' : n ≡ k = omega (arith, e) in ap (nth known) e'
-above-onto (f ∷ fs) known k n e = above-onto fs (Some f ∷ known) (suc k) n (omega (arith, e))
+above_onto : (frames : List Place) (known : List (Option Place)) (k n : ℕ) → n ≡ length frames + k → nth (onto frames known) n ≡ nth known k
+above_onto [] known k n e = let e' : n ≡ k = omega (arith, e) in ap (nth known) e'
+above_onto (f ∷ fs) known k n e = above_onto fs (Some f ∷ known) (suc k) n (omega (arith, e))
 
-in-onto : (frames : List Place) (known : List (Option Place)) (k n : ℕ) → n + suc k ≡ length frames → nth (onto frames known) n ≡ slice_get frames k
-in-onto [] known k n e = absurd (omega (arith, e))
-in-onto (f ∷ fs) known zero n e = above-onto fs (Some f ∷ known) 0 n (omega (arith, e))
-in-onto (f ∷ fs) known (suc k) n e = in-onto fs (Some f ∷ known) k n (omega (arith, e))
+in_onto : (frames : List Place) (known : List (Option Place)) (k n : ℕ) → n + suc k ≡ length frames → nth (onto frames known) n ≡ slice_get frames k
+in_onto [] known k n e = absurd (omega (arith, e))
+in_onto (f ∷ fs) known zero n e = above_onto fs (Some f ∷ known) 0 n (omega (arith, e))
+in_onto (f ∷ fs) known (suc k) n e = in_onto fs (Some f ∷ known) k n (omega (arith, e))
 
-past-two : (places : List (Option Place)) (n m : ℕ) → n ≡ m + 2 → place_at (Some (place 0 0) ∷ None ∷ places) n ≡ nth places m
-past-two places zero m e = absurd (omega (arith, e))
-past-two places (suc zero) m e = absurd (omega (arith, e))
-past-two places (suc (suc n)) m e = let e' : n ≡ m = omega (arith, e) in ap (nth places) e'
+past_two : (places : List (Option Place)) (n m : ℕ) → n ≡ m + 2 → place_at (Some (place 0 0) ∷ None ∷ places) n ≡ nth places m
+past_two places zero m e = absurd (omega (arith, e))
+past_two places (suc zero) m e = absurd (omega (arith, e))
+past_two places (suc (suc n)) m e = let e' : n ≡ m = omega (arith, e) in ap (nth places) e'
 
 module _ (top : Place) (frames : List Place) where
   abbrev rest : List (Option Place)
@@ -76,12 +74,12 @@ module _ (top : Place) (frames : List Place) where
 
   -- at the level of the frame itself its place, and so many levels lower that of the frame so many links down
   pub shown_top : place_at (shown top frames) (length frames + 2) ≡ Some top
-  shown_top = past-two (onto frames rest) (length frames + 2) (length frames) refl ∙ above-onto frames rest 0 (length frames) (omega arith)
+  shown_top = past_two (onto frames rest) (length frames + 2) (length frames) refl ∙ above_onto frames rest 0 (length frames) (omega arith)
 
   pub shown_below : (k level : ℕ) → level + suc k ≡ length frames + 2 → 2 ≤ level → place_at (shown top frames) level ≡ slice_get frames k
   shown_below k level e low =
       let e' : level ≡ (level - 2) + 2 = omega (arith, low) in
-      past-two (onto frames rest) level (level - 2) e' ∙ in-onto frames rest k (level - 2) (omega (arith, e, low))
+      past_two (onto frames rest) level (level - 2) e' ∙ in_onto frames rest k (level - 2) (omega (arith, e, low))
 
 module _ {stacks : Stacks} where
   -- the display of a frame that is linked to a place is made along the links from there

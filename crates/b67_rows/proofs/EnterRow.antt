@@ -1,16 +1,14 @@
 -- ENTR on an intrinsic: the intrinsic is given the words above its reference, the first one first.
-use Rattle.std.proofs.Common.{length-append, ◌≡◌, sym, ap, ◌∙◌, ℕ, ◌+◌, ◌-◌, ◌<◌, List, [], ◌∷◌, ◌++◌, length, take, drop, Option, Some, None, Bool, true, false, arith, append_assoc}
-use Rattle.b67_rows.proofs.Prelude.{nat_tests, length-reverse, if◌then◌else◌, nat_lt, ◌&&◌, slice_get, reverse, Word, Place, as_irw, as_sirw, as_mscw, as_pcw, Irw, Mscw, Pcw, Registers, Sirw, Code, words_of, word_at, place, Effect, Image, intrinsic, intrinsic_row, Look, found, at, ◌>->◌, valid, intrinsic_numbered, display_at, floor, Program, Change, does, effect_of, asked, see, ◌>>=◌, cell_in, irw_or_sirw, reached_in, one_sirw, invalid, enter_by, enter_procedure, not_entered, Cell, Reached, Core}
+use Rattle.std.proofs.Common.{length-append, ◌≡◌, sym, ap, ◌∙◌, ℕ, ◌+◌, ◌-◌, List, [], ◌∷◌, ◌++◌, length, take, drop, Option, Some, None, Bool, true, false, arith, append_assoc}
+use Rattle.b67_list.proofs.Numbers.{ltb_less}
+use Rattle.b67_rows.proofs.Prelude.{length-reverse, if◌then◌else◌, nat_lt, ◌&&◌, slice_get, reverse, Word, Place, as_irw, as_sirw, as_mscw, as_pcw, Irw, Mscw, Pcw, Registers, Sirw, Code, words_of, word_at, place, Effect, Image, intrinsic, intrinsic_row, Look, found, at, ◌>->◌, valid, intrinsic_numbered, display_at, floor, Program, Change, does, effect_of, asked, see, ◌>>=◌, cell_in, irw_or_sirw, reached_in, one_sirw, invalid, enter_by, enter_procedure, not_entered, Cell, Reached, Core}
 use Rattle.b67_ops.specs.declared.Operator.TheVariants as ops
 use Rattle.b67_ops.specs.declared.PlainKind.TheVariants as kinds
 use Rattle.b67_table.specs.Rows.{enter}
 use Rattle.b67_rows.proofs.Rows.{words_are}
-use Rattle.b67_rows.proofs.StackWords.{word-under, stack-over, drop-seam, take-all, length-stack}
+use Rattle.b67_rows.proofs.StackWords.{word_under, stack_over, drop_seam, take_all, length_stack}
 use Rattle.b67_rows.proofs.StoreRow.{most_is}
 use Rattle.b67_rows.proofs.AtOperator.{AtOperator}
-
-pub below_is : (m n : ℕ) → m < n → nat_lt m n ≡ true
-below_is m n h = grind (arith, nat_tests)
 
 -- the arguments above a reference and a mark, above other words
 pub record Called (core : Core) (arguments : List Word) (reference marked : Word) (below : List Word) : Type 0 where
@@ -61,21 +59,21 @@ module _ (code : Code) (here : AtOperator code (ops.Plain kinds.Entr)) (enters :
   mark_word : word_at img.stacks (place r.stack r.f) ≡ Some marked
   mark_word =
       ap (λ (ws : List Word). slice_get ws r.f) (whole ∙ ap (λ (ws : List Word). core.below ++ reverse ws) (sym (append_assoc arguments (reference ∷ []) (marked ∷ below))))
-      ∙ word-under core.below (arguments ++ reference ∷ []) marked below r.f called.mark_at
+      ∙ word_under core.below (arguments ++ reference ∷ []) marked below r.f called.mark_at
 
   reference_word : word_at img.stacks (place r.stack (r.f + 1)) ≡ Some reference
   reference_word =
       ap (λ (ws : List Word). slice_get ws (r.f + 1)) whole
-      ∙ word-under core.below arguments reference (marked ∷ below) (r.f + 1) (omega (arith, called.mark_at))
+      ∙ word_under core.below arguments reference (marked ∷ below) (r.f + 1) (omega (arith, called.mark_at))
 
   -- the words above the reference, the first one first
   arguments_are : take (r.s - (r.f + 2)) (drop (r.f + 2) (words_of img.stacks r.stack)) ≡ reverse arguments
   arguments_are =
-      ap (λ (ws : List Word). take (r.s - (r.f + 2)) (drop (r.f + 2) ws)) (whole ∙ stack-over core.below arguments (reference ∷ marked ∷ below))
+      ap (λ (ws : List Word). take (r.s - (r.f + 2)) (drop (r.f + 2) ws)) (whole ∙ stack_over core.below arguments (reference ∷ marked ∷ below))
       ∙ ap (take (r.s - (r.f + 2)))
-      (drop-seam (core.below ++ reverse (reference ∷ marked ∷ below)) (reverse arguments) (r.f + 2)
-      (omega (arith, called.mark_at, length-stack core.below (reference ∷ marked ∷ below))))
-      ∙ take-all (reverse arguments) (r.s - (r.f + 2)) (omega (arith, long, called.mark_at, length-reverse arguments))
+      (drop_seam (core.below ++ reverse (reference ∷ marked ∷ below)) (reverse arguments) (r.f + 2)
+      (omega (arith, called.mark_at, length_stack core.below (reference ∷ marked ∷ below))))
+      ∙ take_all (reverse arguments) (r.s - (r.f + 2)) (omega (arith, long, called.mark_at, length-reverse arguments))
 
   abbrev on_mark : Mscw → Program
   on_mark x = see (at (place r.stack (r.f + 1)) (λ (w : Option Word). valid w)) >>= (λ (above : Word). enter_by code r next x above (irw_or_sirw r (as_irw above) (as_sirw above)))
@@ -94,7 +92,7 @@ module _ (code : Code) (here : AtOperator code (ops.Plain kinds.Entr)) (enters :
       ap (λ (b : Bool). tested (see (if b && nat_lt (r.f + 1) r.s then at (place r.stack r.f) (λ (w : Option Word). valid w >-> on_word) else invalid) >>= on_mark))
       (most_is (floor r) r.f (omega (arith, called.mark_at, has.is.bottom)))
       ∙ ap (λ (b : Bool). tested (see (if b then at (place r.stack r.f) (λ (w : Option Word). valid w >-> on_word) else invalid) >>= on_mark))
-      (below_is (r.f + 1) r.s (omega (arith, called.mark_at, long)))
+      (ltb_less (r.f + 1) r.s (omega (arith, called.mark_at, long)))
       ∙ ap (λ (o : Option Word). tested (see (valid o >-> on_word) >>= on_mark)) mark_word
       ∙ ap (λ (o : Option Mscw). tested (see (valid o >-> not_entered) >>= on_mark)) reads_mark
       ∙ ap (λ (b : Bool). tested (see (if b then invalid else found m) >>= on_mark)) unentered

@@ -1,5 +1,6 @@
 -- ENTR on a word that leads to a procedure or a block: a frame is made of the mark under it and of the word itself.
 use Rattle.std.proofs.Common.{◌≡◌, refl, sym, ap, ◌∙◌, ℕ, zero, suc, ◌+◌, ◌-◌, ◌<◌, ◌≤◌, List, [], ◌∷◌, ◌++◌, length, Option, Some, Bool, true, false, Result, Ok, arith, append_assoc, append-nil, length-append}
+use Rattle.b67_list.proofs.Numbers.{ltb_less}
 use Rattle.b67_rows.proofs.Prelude.{reverse-append, length-reverse, if◌then◌else◌, nat_lt, nat_le, ◌&&◌, slice_get, slice_set, reverse, Enter, Word, Place, as_irw, as_sirw, as_mscw, as_rcw, place_at, Mscw, Pcw, Rcw, Registers, Code, Stacks, words_of, word_at, with_stack, with_word, place, linked, Effect, gives, Image, with_stacks, with_registers, intrinsic, end_of_code, most_cells, control_word, entered_mark, if_fits, is_home, if_home, entered, Look, found, stops, at, ◌>->◌, valid, read_as, look_seen, intrinsic_numbered, floor, frame, at_or, Program, Change, done, does, effect_of, asked, see, answer, ◌>>=◌, save, registers, irw_or_sirw, cell_of, invalid, enter_by, enter_procedure, not_entered, table, Entry, InterruptKind, BadCode, then_seen, see_found, told_by, called_by, letter, Core, IsCore, with_core, stack_of}
 use Rattle.b67_ops.specs.declared.Operator.TheVariants as ops
 use Rattle.b67_ops.specs.declared.PlainKind.TheVariants as kinds
@@ -12,16 +13,15 @@ use Rattle.b67_table.specs.Table.{raw, class_at}
 use Rattle.b67_deeds.specs.declared.Letter.TheVariants as act
 use Rattle.b67_letters.specs.Letters.{intrinsic_letter, called_letter}
 use Rattle.b67_rows.proofs.Rows.{raw_is, words_are, action_is}
-use Rattle.b67_rows.proofs.StackWords.{word-under, stack-over, length-stack, words-set, set-set}
+use Rattle.b67_rows.proofs.StackWords.{word_under, stack_over, length_stack, words_set, set_set}
 use Rattle.b67_rows.proofs.StoreRow.{most_is}
-use Rattle.b67_rows.proofs.EnterRow.{below_is}
 use Rattle.b67_rows.proofs.AtOperator.{AtOperator}
 
 -- another word after so many
-set-over : (front back : List Word) (k n : ℕ) (x : Word) → n ≡ length front + k → slice_set (front ++ back) n x ≡ front ++ slice_set back k x
-set-over [] back k n x e = let e' : n ≡ k = omega (arith, e) in ap (λ (m : ℕ). slice_set back m x) e'
-set-over (y ∷ front) back k zero x e = absurd (omega (arith, e))
-set-over (y ∷ front) back k (suc n) x e = let e' : n ≡ length front + k = omega (arith, e) in ap (λ (ws : List Word). y ∷ ws) (set-over front back k n x e')
+set_over : (front back : List Word) (k n : ℕ) (x : Word) → n ≡ length front + k → slice_set (front ++ back) n x ≡ front ++ slice_set back k x
+set_over [] back k n x e = let e' : n ≡ k = omega (arith, e) in ap (λ (m : ℕ). slice_set back m x) e'
+set_over (y ∷ front) back k zero x e = absurd (omega (arith, e))
+set_over (y ∷ front) back k (suc n) x e = let e' : n ≡ length front + k = omega (arith, e) in ap (λ (ws : List Word). y ∷ ws) (set_over front back k n x e')
 
 -- the words below the mark
 abbrev pub lower_of : Core → List Word → List Word
@@ -76,7 +76,7 @@ module _ (code : Code) (here : AtOperator code (ops.Plain kinds.Entr)) (argument
   long = omega (arith, has.is.top, ap length e.words, length-append arguments (control ∷ marked ∷ more))
 
   low : r.f ≡ length lower
-  low = e.mark_at ∙ sym (length-stack core.below more)
+  low = e.mark_at ∙ sym (length_stack core.below more)
 
   whole : words_of img.stacks r.stack ≡ core.below ++ reverse (arguments ++ control ∷ marked ∷ more)
   whole = words_are img p core has ∙ ap (λ (ws : List Word). core.below ++ reverse ws) e.words
@@ -89,16 +89,16 @@ module _ (code : Code) (here : AtOperator code (ops.Plain kinds.Entr)) (argument
   laid =
       whole
       ∙ ap (λ (ws : List Word). core.below ++ reverse ws) (sym (append_assoc arguments (control ∷ marked ∷ []) more))
-      ∙ stack-over core.below (arguments ++ control ∷ marked ∷ []) more
+      ∙ stack_over core.below (arguments ++ control ∷ marked ∷ []) more
       ∙ ap (λ (ws : List Word). lower ++ ws) (reverse-append arguments (control ∷ marked ∷ []))
 
   mark_word : word_at img.stacks (place r.stack r.f) ≡ Some marked
   mark_word =
       ap (λ (ws : List Word). slice_get ws r.f) (whole ∙ ap (λ (ws : List Word). core.below ++ reverse ws) (sym (append_assoc arguments (control ∷ []) (marked ∷ more))))
-      ∙ word-under core.below (arguments ++ control ∷ []) marked more r.f e.mark_at
+      ∙ word_under core.below (arguments ++ control ∷ []) marked more r.f e.mark_at
 
   control_there : word_at img.stacks (place r.stack (r.f + 1)) ≡ Some control
-  control_there = ap (λ (ws : List Word). slice_get ws (r.f + 1)) whole ∙ word-under core.below arguments control (marked ∷ more) (r.f + 1) (omega (arith, e.mark_at))
+  control_there = ap (λ (ws : List Word). slice_get ws (r.f + 1)) whole ∙ word_under core.below arguments control (marked ∷ more) (r.f + 1) (omega (arith, e.mark_at))
 
   taken : r.s - (r.f + 2) ≡ length arguments
   taken = omega (arith, e.mark_at, long)
@@ -113,7 +113,7 @@ module _ (code : Code) (here : AtOperator code (ops.Plain kinds.Entr)) (argument
 
   entering_seen : look_seen img.stacks (entering r next (nat_le (r.s - (r.f + 2)) most_cells) r.f c (Some home)) ≡ Ok entry_of
   entering_seen =
-      ap (λ (b : Bool). look_seen img.stacks (if b then if_fits (nat_le (r.s - (r.f + 2)) most_cells) (if_home (Some home) c.level linking) else stops BadCode)) (below_is next end_of_code e.returns)
+      ap (λ (b : Bool). look_seen img.stacks (if b then if_fits (nat_le (r.s - (r.f + 2)) most_cells) (if_home (Some home) c.level linking) else stops BadCode)) (ltb_less next end_of_code e.returns)
       ∙ ap (λ (n : ℕ). look_seen img.stacks (if_fits (nat_le n most_cells) (if_home (Some home) c.level linking))) taken
       ∙ ap (λ (b : Bool). look_seen img.stacks (if_fits b (if_home (Some home) c.level linking))) (most_is (length arguments) most_cells e.few)
       ∙ ap (λ (o : Option Rcw). look_seen img.stacks (if_fits (is_home o c.level) (linking home))) e.outer_reads
@@ -136,11 +136,11 @@ module _ (code : Code) (here : AtOperator code (ops.Plain kinds.Entr)) (argument
       ap (λ (ws : List Word). with_word (with_stack img.stacks r.stack (slice_set ws r.f mark)) (place r.stack (r.f + 1)) control_above)
       laid
       ∙ ap (λ (ws : List Word). with_word (with_stack img.stacks r.stack ws) (place r.stack (r.f + 1)) control_above)
-      (set-over lower (marked ∷ control ∷ given) 0 r.f mark (omega (arith, low)))
+      (set_over lower (marked ∷ control ∷ given) 0 r.f mark (omega (arith, low)))
       ∙ ap (λ (ws : List Word). with_stack (with_stack img.stacks r.stack with_mark) r.stack (slice_set ws (r.f + 1) control_above))
-      (words-set img.stacks r.stack (stack_of core) with_mark has.stack)
-      ∙ ap (λ (ws : List Word). with_stack (with_stack img.stacks r.stack with_mark) r.stack ws) (set-over lower (mark ∷ control ∷ given) 1 (r.f + 1) control_above (omega (arith, low)))
-      ∙ set-set img.stacks r.stack with_mark (lower ++ mark ∷ control_above ∷ given)
+      (words_set img.stacks r.stack (stack_of core) with_mark has.stack)
+      ∙ ap (λ (ws : List Word). with_stack (with_stack img.stacks r.stack with_mark) r.stack ws) (set_over lower (mark ∷ control ∷ given) 1 (r.f + 1) control_above (omega (arith, low)))
+      ∙ set_set img.stacks r.stack with_mark (lower ++ mark ∷ control_above ∷ given)
       ∙ ap (λ (ws : List Word). with_stack img.stacks r.stack ws) (sym (append-nil (lower ++ mark ∷ control_above ∷ given)))
 
   abbrev pub new : Core
@@ -164,7 +164,7 @@ module _ (code : Code) (here : AtOperator code (ops.Plain kinds.Entr)) (argument
       ap (λ (b : Bool). tested (see (if b && nat_lt (r.f + 1) r.s then at (place r.stack r.f) (λ (w : Option Word). valid w >-> on_word) else invalid) >>= on_mark))
       (most_is (floor r) r.f (omega (arith, e.mark_at, has.is.bottom)))
       ∙ ap (λ (b : Bool). tested (see (if b then at (place r.stack r.f) (λ (w : Option Word). valid w >-> on_word) else invalid) >>= on_mark))
-      (below_is (r.f + 1) r.s (omega (arith, e.mark_at, long)))
+      (ltb_less (r.f + 1) r.s (omega (arith, e.mark_at, long)))
       ∙ ap (λ (o : Option Word). tested (see (valid o >-> on_word) >>= on_mark)) mark_word
       ∙ ap (λ (o : Option Mscw). tested (see (valid o >-> not_entered) >>= on_mark)) e.reads_mark
       ∙ ap (λ (b : Bool). tested (see (if b then invalid else found m) >>= on_mark)) e.unentered

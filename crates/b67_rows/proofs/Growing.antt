@@ -1,21 +1,23 @@
 -- The world in which an instance is made, and where the code after an entry ends.
 use Rattle.std.proofs.Common.{slice_get, ◌≡◌, ◌≢◌, sym, ap, ◌∙◌, ℕ, zero, suc, ◌+◌, ◌*◌, ◌≤◌, List, [], ◌∷◌, ◌++◌, length, Option, Some, None, arith, length-append}
-use Rattle.b67_rows.proofs.Prelude.{numbered, Block, Kind, items, items_of, decls_items, ending, Operator, Spells, Segment, none_some}
+use Rattle.b67_list.proofs.Lists.{get_front}
+use Rattle.b67_list.proofs.Numbers.{none_some}
+use Rattle.b67_rows.proofs.Prelude.{numbered, Block, Kind, items, items_of, decls_items, ending, Operator, Spells, Segment}
 use Rattle.b67_ops.specs.Spelling.{spelling}
 use Rattle.b67_segment.specs.Operators.{Placed, text, size, width, StandsAmong}
-use Rattle.b67_segment.proofs.Fetches.{length-syllables}
-use Rattle.b67_segment.proofs.Texts.{text-append}
-use Rattle.b67_rows.proofs.StackWords.{get-seam, get-front}
+use Rattle.b67_segment.proofs.Fetches.{length_syllables}
+use Rattle.b67_segment.proofs.Texts.{text_append}
+use Rattle.b67_rows.proofs.StackWords.{get_seam}
 
 -- ---- one more in a list by number
 
 pub numbered_last : {A : Type 0} (xs : List A) (x : A) (n : ℕ) → n ≡ length xs + 1 → numbered (xs ++ x ∷ []) n ≡ Some x
 numbered_last xs x zero e = absurd (omega (arith, e))
-numbered_last xs x (suc k) e = get-seam xs x [] k (omega (arith, e))
+numbered_last xs x (suc k) e = get_seam xs x [] k (omega (arith, e))
 
 pub numbered_before : {A : Type 0} (xs ys : List A) (n : ℕ) (x : A) → numbered xs n ≡ Some x → numbered (xs ++ ys) n ≡ Some x
 numbered_before xs ys zero x e = none_some e
-numbered_before xs ys (suc k) x e = get-front xs ys k x e
+numbered_before xs ys (suc k) x e = get_front xs ys k x e
 
 -- all but the last were there before
 pub numbered_earlier : {A : Type 0} (xs : List A) (x : A) (n : ℕ) (y : A) → n ≢ length xs + 1 → numbered (xs ++ x ∷ []) n ≡ Some y → numbered xs n ≡ Some y
@@ -33,12 +35,12 @@ numbered_earlier {A = A} xs x (suc k) y other e = before xs k (λ s. other (omeg
 -- the place after an operator lies in its segment, or at the end of it
 pub next_within : (ps : List Placed) (segment : Segment) (at level : ℕ) (op : Operator) (next : ℕ) → Spells ps segment → StandsAmong ps at level op next → next ≤ 6 * length segment.words
 next_within ps segment at level op next spells stands =
-    omega (arith, whole, stands.next_is, stands.at_is, sym (length-syllables segment.words) ∙ ap length spells.code)
+    omega (arith, whole, stands.next_is, stands.at_is, sym (length_syllables segment.words) ∙ ap length spells.code)
   where
     whole : size ps ≡ size stands.before + (length (spelling at level op) + length (text (at + width at (record { level = level; operator = op })) stands.after))
     whole =
         ap size stands.parts
-        ∙ ap length (text-append 0 stands.before (record { level = level; operator = op } ∷ stands.after))
+        ∙ ap length (text_append 0 stands.before (record { level = level; operator = op } ∷ stands.after))
         ∙ length-append (text 0 stands.before) (text (0 + size stands.before) (record { level = level; operator = op } ∷ stands.after))
         ∙ ap (λ (n : ℕ). size stands.before + length (text n (record { level = level; operator = op } ∷ stands.after))) here
         ∙ ap (λ (n : ℕ). size stands.before + n) (length-append (spelling at level op) (text (at + width at (record { level = level; operator = op })) stands.after))

@@ -1,6 +1,6 @@
 -- NXLV, NXLN and INDX on the descriptor of an array, and STOD on that of an element.
 use Rattle.std.proofs.Common.{◌≡◌, refl, sym, ap, ◌∙◌, ℕ, ◌+◌, ◌-◌, List, [], ◌∷◌, ◌++◌, length, take, Option, Some, None, Bool, true, false, Ok, ℤ, arith, append_assoc}
-use Rattle.b67_rows.proofs.Prelude.{if◌then◌else◌, ◌==◌, slice_get, reverse, FaultKind, Word, Place, as_irw, as_sirw, as_descriptor, Descriptor, Irw, Registers, Sirw, Code, Stacks, words_of, word_at, with_stack, with_push, with_cut, is_array_descriptor, as_indexed, gives, faults, Image, with_stacks, with_registers, with_rows, Look, found, stops, ◌>->◌, valid, look_seen, replaced, display_at, floor, Test, answer, interrupt, fault, Program, does, effect_of, asked, changed, see, ◌>>=◌, told, Two, cell_in, sirw_cell, irw_or_sirw, no_second, one_sirw, reached_in, from_top, operand_in, invalid, store_by, stored, operator_at, Cell, StackUnderflow, Reached, then_seen, see_found, Core, HasCore, with_core, stack_of, reverse-cons}
+use Rattle.b67_rows.proofs.Prelude.{if◌then◌else◌, ◌==◌, slice_get, reverse, FaultKind, Word, Place, as_irw, as_sirw, as_descriptor, Descriptor, Irw, Registers, Sirw, Code, Stacks, words_of, word_at, with_stack, with_push, with_cut, is_array_descriptor, as_indexed, gives, faults, Image, with_stacks, with_registers, with_rows, Look, found, stops, ◌>->◌, valid, look_seen, replaced, display_at, floor, Test, answer, interrupt, fault, Program, does, effect_of, asked, changed, see, ◌>>=◌, told, Two, cell_in, sirw_cell, irw_or_sirw, no_second, one_sirw, reached_in, from_top, operand_in, invalid, store_by, stored, operator_at, Cell, StackUnderflow, Reached, then_seen, see_found, Core, HasCore, with_core, stack_of, reverse_cons}
 use Rattle.b67_num.specs.declared.FaultKind.TheVariants.{InvalidIndex}
 use Rattle.b67_word.specs.Word.{as_whole}
 use Rattle.b67_control.specs.Control.{descriptor_word}
@@ -15,7 +15,7 @@ use Rattle.b67_table.specs.Rows as rows
 use Rattle.b67_table.specs.Rows.{store}
 use Rattle.b67_table.specs.Table.{raw, class_at}
 use Rattle.b67_rows.proofs.Rows.{raw_is, words_are}
-use Rattle.b67_rows.proofs.StackWords.{word-over, word-under, cut-stack, words-set, set-set}
+use Rattle.b67_rows.proofs.StackWords.{word_over, word_under, cut_stack, words_set, set_set}
 use Rattle.b67_rows.proofs.StoreRow.{most_is}
 use Rattle.b67_rows.proofs.AtOperator.{at_operator}
 
@@ -121,12 +121,12 @@ module _ (img : Image) (p : ℕ) (core : Core) (has : HasCore img p core) (x y :
   pub top_word : word_at img.stacks (record { stack = r.stack; at = r.s - 1 }) ≡ Some x
   top_word =
       ap (λ (ws : List Word). slice_get ws (r.s - 1)) whole
-      ∙ word-over core.below x (y ∷ words) (r.s - 1) (omega (arith, long))
+      ∙ word_over core.below x (y ∷ words) (r.s - 1) (omega (arith, long))
 
   pub under_word : word_at img.stacks (record { stack = r.stack; at = r.s - 2 }) ≡ Some y
   under_word =
       ap (λ (ws : List Word). slice_get ws (r.s - 2)) whole
-      ∙ word-under core.below (x ∷ []) y words (r.s - 2) (omega (arith, long))
+      ∙ word_under core.below (x ∷ []) y words (r.s - 2) (omega (arith, long))
 
   abbrev two : Two
   two = record { x = x; y = y }
@@ -144,16 +144,16 @@ module _ (img : Image) (p : ℕ) (core : Core) (has : HasCore img p core) (x y :
   cut_is : with_cut img.stacks r.stack (r.s - 2) ≡ with_stack img.stacks r.stack (core.below ++ reverse words)
   cut_is =
       ap (λ (ws : List Word). with_stack img.stacks r.stack (take (r.s - 2) ws)) whole
-      ∙ ap (λ (ws : List Word). with_stack img.stacks r.stack ws) (cut-stack core.below (x ∷ y ∷ []) words (r.s - 2) (omega (arith, long)))
+      ∙ ap (λ (ws : List Word). with_stack img.stacks r.stack ws) (cut_stack core.below (x ∷ y ∷ []) words (r.s - 2) (omega (arith, long)))
 
   -- .. with another one in their place
   one_is : (v : Word) → with_push (with_cut img.stacks r.stack (r.s - 2)) r.stack v ≡ with_stack img.stacks r.stack (core.below ++ reverse (v ∷ words))
   one_is v =
       ap (λ (ss : Stacks). with_stack ss r.stack (words_of ss r.stack ++ v ∷ [])) cut_is
       ∙ ap (λ (ws : List Word). with_stack (with_stack img.stacks r.stack (core.below ++ reverse words)) r.stack (ws ++ v ∷ []))
-      (words-set img.stacks r.stack (stack_of core) (core.below ++ reverse words) has.stack)
-      ∙ set-set img.stacks r.stack (core.below ++ reverse words) ((core.below ++ reverse words) ++ v ∷ [])
-      ∙ ap (λ (ws : List Word). with_stack img.stacks r.stack ws) (append_assoc core.below (reverse words) (v ∷ []) ∙ ap (λ (ws : List Word). core.below ++ ws) (sym (reverse-cons v words)))
+      (words_set img.stacks r.stack (stack_of core) (core.below ++ reverse words) has.stack)
+      ∙ set_set img.stacks r.stack (core.below ++ reverse words) ((core.below ++ reverse words) ++ v ∷ [])
+      ∙ ap (λ (ws : List Word). with_stack img.stacks r.stack ws) (append_assoc core.below (reverse words) (v ∷ []) ∙ ap (λ (ws : List Word). core.below ++ ws) (sym (reverse_cons v words)))
 
   pub replaced_is : (next : ℕ) (v : Word) → changed p (replaced r next 2 v) img ≡ with_core img p (with_one core v words next)
   replaced_is next v = ap (λ (ss : Stacks). with_registers (with_stacks img ss) p (record r { s = r.s - 2 + 1; place = next })) (one_is v)

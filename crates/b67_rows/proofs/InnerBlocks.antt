@@ -1,11 +1,15 @@
 -- A block that is no procedure's stands in the text of one before it: that block is next around it, and has as many tokens at least.
 use Rattle.std.proofs.Common.{◌≡◌, refl, sym, ap, ◌∙◌, subst, ℕ, zero, suc, ◌+◌, ◌<◌, ◌≤◌, Bool, true, false, List, [], ◌∷◌, ◌++◌, length, map, Some, None, arith, add-one, append_assoc}
-use Rattle.b67_rows.proofs.Prelude.{◌==◌, if◌then◌else◌, not, slice_get, Block, block_numbered, number_at, around, stmt_tokens, stmts_tokens, decls_tokens, PStmt, PStmts, PDecls, PBody, Scopes, Spot, Named, Item, items, event_items, decls_items, ending, items_of, BlockIsSeen, IsSeenAround, IsInner, is_procedure, InStmt, InStmts, InItems, InDeclared, get_within, true_false, some_same, none_some}
-use Rattle.std.proofs.lemmas.Bool.{and_parts, eqb-true}
+use Rattle.b67_list.proofs.Lists.{first_same, get_within}
+use Rattle.b67_list.proofs.Numbers.{none_some}
+use Rattle.b67_list.proofs.Truths.{true_false}
+use Rattle.b67_rows.proofs.Prelude.{if◌then◌else◌, not, slice_get, Block, block_numbered, number_at, around, stmt_tokens, stmts_tokens, decls_tokens, PStmt, PStmts, PDecls, PBody, Scopes, Spot, Named, Item, items, event_items, decls_items, ending, items_of, BlockIsSeen, IsSeenAround, IsInner, is_procedure, InStmt, InStmts, InItems, InDeclared, some_same}
 use Rattle.algol_tree.specs.declared.tree.Heading.{Heading}
 use Rattle.algol_tree.specs.Blocks.{same_spot, of_statement, of_procedure, procedure_block, blocks_of, blocks_in_decl, blocks_in_decls, blocks_in_stmts, blocks_in_body, spot_of, outer_block}
 use Rattle.algol_tree.specs.Plain as tree
 use Rattle.algol_tree.specs.Sorts.{same_name}
+use Rattle.algol_tree.proofs.Spots.{same_spot_is}
+use Rattle.algol_tree.proofs.Trees.{block_is, got_numbered}
 use Rattle.algol_paths.specs.Laws.{ItemsKeepToText}
 use Rattle.b67_templates.specs.Names.{DeclsNamed, StmtNamed, StmtsNamed, BodyNamed}
 use Rattle.b67_templates.specs.Nested.{AreNested}
@@ -43,24 +47,8 @@ module _ (P : Named → Type 0) (Q : PBody → Type 0) (R : Named → Type 0) wh
 
 -- ---- blocks by their numbers
 
-same_head : {X : Type 0} (x y : X) (xs ys : List X) → x ∷ xs ≡ y ∷ ys → x ≡ y
-same_head x y xs ys e = cc
-
 not_empty : {X : Type 0} {A : Type 0} (y : X) (ys : List X) → [] ≡ y ∷ ys → A
 not_empty y ys e = cc
-
-block_is : (bs : List Block) (n : ℕ) (c : Block) → slice_get bs n ≡ Some c → block_numbered bs n ≡ c
-block_is bs n c e = rw e refl
-
-pub block_there : (bs : List Block) (n : ℕ) → n < length bs → slice_get bs n ≡ Some (block_numbered bs n)
-block_there [] n h = absurd (omega (arith, h))
-block_there (c ∷ cs) zero h = refl
-block_there (c ∷ cs) (suc n) h = block_there cs n (omega (arith, h))
-
-same_place : (s t : Spot) → same_spot s t ≡ true → s ≡ t
-same_place s t h =
-    let parts = and_parts (s.column == t.column) (s.line == t.line) h in
-    ap (λ n. record { line = s.line; column = n }) (eqb-true s.column t.column parts.0) ∙ ap (λ n. record { line = n; column = t.column }) (eqb-true s.line t.line parts.1)
 
 -- the number of a place is that of a block which stands there
 spot_there : (cs : List Block) (s : Spot) → number_at cs s < length cs → (block_numbered cs (number_at cs s)).spot ≡ s
@@ -69,7 +57,7 @@ spot_there (c ∷ cs) s h = by (spot_there cs s) (same_spot c.spot s) refl h
   where
     by : (number_at cs s < length cs → (block_numbered cs (number_at cs s)).spot ≡ s) → (t : Bool) → same_spot c.spot s ≡ t → (if t then 0 else number_at cs s + 1) < length (c ∷ cs) →
         (block_numbered (c ∷ cs) (if t then 0 else number_at cs s + 1)).spot ≡ s
-    by later true e h = same_place c.spot s e
+    by later true e h = same_spot_is c.spot s e
     by later false e h = ap (λ (m : ℕ). (block_numbered (c ∷ cs) m).spot) (add-one (number_at cs s)) ∙ later (omega (arith, h))
 
 -- so the block that is next around another has the number of its place
@@ -79,7 +67,7 @@ next_number bs j k known e = by ((block_numbered bs k).outer) e
     by : (spots : List Spot) → map (number_at bs) spots ≡ j ∷ around bs j → number_at bs ((block_numbered bs j).spot) ≡ j
     by [] f = not_empty j (around bs j) f
     by (s ∷ spots) f =
-        let first : number_at bs s ≡ j = same_head (number_at bs s) j (map (number_at bs) spots) (around bs j) f in
+        let first : number_at bs s ≡ j = first_same (number_at bs s) j (map (number_at bs) spots) (around bs j) f in
         ap (λ (m : ℕ). number_at bs ((block_numbered bs m).spot)) (sym first) ∙ ap (number_at bs) (spot_there bs s (omega (arith, first, known))) ∙ first
 
 module _ (bs : List Block) where
@@ -267,4 +255,4 @@ module _ (sc : Scopes) (nested : AreNested sc) where
       (body_inside ds ss 0 1 (spot ∷ []) (own_text bs 0 c first) (decls_inside ds 1 (spot ∷ []) named.0)
       (λ m u. stmts_inside ss 0 m (spot ∷ []) u named.1 (own_stated 0 c first) (own_few 0 c first))
       (subst (λ (cs : List Block). There cs 1 rest) (sym e) (there_all (c ∷ rest)).1))
-      (ap (λ (cs : List Block). slice_get cs (suc k)) (sym e) ∙ block_there bs (suc k) known) none
+      (ap (λ (cs : List Block). slice_get cs (suc k)) (sym e) ∙ got_numbered bs (suc k) known) none

@@ -14,7 +14,7 @@ use Rattle.b67_table.specs.Intrinsics.{case_in, case_place, gone_to_case}
 use Rattle.b67_table.specs.Rows.{row, enter}
 use Rattle.b67_table.specs.Table.{raw, class_at}
 use Rattle.b67_rows.proofs.Rows.{raw_is, words_are}
-use Rattle.b67_rows.proofs.StackWords.{cut-stack}
+use Rattle.b67_rows.proofs.StackWords.{cut_stack}
 use Rattle.b67_rows.proofs.StoreRow.{most_is}
 use Rattle.b67_rows.proofs.EnterRow.{Called, enter_asked, enter_does, EntersIntrinsic}
 use Rattle.b67_rows.proofs.AtOperator.{AtOperator}
@@ -99,7 +99,7 @@ module _ (code : Code) (here : AtOperator code (ops.Plain kinds.Entr)) (name : I
   cut_words =
       ap (take r.f) (words_are img p core has
       ∙ ap (λ (ws : List Word). core.below ++ reverse ws) (c.called.words ∙ sym (append_assoc arguments (reference ∷ marked ∷ []) below)))
-      ∙ cut-stack core.below (arguments ++ reference ∷ marked ∷ []) below r.f c.called.mark_at
+      ∙ cut_stack core.below (arguments ++ reference ∷ marked ∷ []) below r.f c.called.mark_at
 
   pub chained_asked : (t : Program) → asked img (if_chained core.registers c.m t) ≡ asked img t
   chained_asked t =

@@ -1,5 +1,6 @@
 -- EXIT and RETN of a frame that is not the base frame.
 use Rattle.std.proofs.Common.{◌≡◌, refl, sym, ap, ◌∙◌, ℕ, ◌+◌, ◌≤◌, List, [], ◌∷◌, ◌++◌, length, take, drop, Option, Some, None, Bool, true, false, Ok, arith, append_assoc, length-append, ◌≢◌}
+use Rattle.b67_list.proofs.Lists.{take_front}
 use Rattle.b67_rows.proofs.Prelude.{nat_tests, if◌then◌else◌, nat_eq, reverse, CriticalBlockExit, Word, Place, place_at, Registers, Code, Stacks, words_of, with_stack, with_cut, with_push, place, left_to, rebuilt, Effect, gives, faults, Image, with_stacks, with_rows, with_registers, is_critical, leave, found, ◌>->◌, look_seen, pushed, frame, at_or, Program, Change, done, changed, effect_of, asked, answer, fault, registers, cut, live_criticals, table, operator_at, Below, then_seen, see_found, letter, Core, IsCore, HasCore, with_core, stack_of}
 use Rattle.b67_deeds.specs.declared.Letter.TheVariants as act
 use Rattle.b67_ops.specs.declared.Operator.TheVariants as ops
@@ -17,7 +18,7 @@ use Rattle.b67_table.specs.Table.{raw, class_at}
 use Rattle.b67_deeds.specs.declared.Letter.TheVariants.{End, Leave}
 use Rattle.b67_letters.specs.Letters.{left_letter}
 use Rattle.b67_rows.proofs.Rows.{raw_is, words_are, action_is}
-use Rattle.b67_rows.proofs.StackWords.{take-seam, drop-seam, stack-over, length-stack, words-set, set-set}
+use Rattle.b67_rows.proofs.StackWords.{drop_seam, stack_over, length_stack, words_set, set_set}
 use Rattle.b67_rows.proofs.Cored.{has_now, others_have}
 use Rattle.b67_rows.proofs.AtOperator.{at_operator}
 
@@ -85,21 +86,21 @@ module _ (code : Code) (img : Image) (p : ℕ) (core : Core) (has : HasCore img 
   cells_there : take r.cells (drop (f + 2) (words_of img.stacks r.stack)) ≡ cells
   cells_there =
       ap (λ (ws : List Word). take r.cells (drop (f + 2) ws)) (whole ∙ sym (append_assoc lower (mark ∷ control ∷ []) (cells ++ reverse core.words)))
-      ∙ ap (take r.cells) (drop-seam (lower ++ mark ∷ control ∷ []) (cells ++ reverse core.words) (f + 2) (sym (length-append lower (mark ∷ control ∷ []))))
-      ∙ take-seam cells (reverse core.words) r.cells e.counted
+      ∙ ap (take r.cells) (drop_seam (lower ++ mark ∷ control ∷ []) (cells ++ reverse core.words) (f + 2) (sym (length-append lower (mark ∷ control ∷ []))))
+      ∙ take_front cells (reverse core.words) r.cells e.counted
 
   cut_there : with_cut img.stacks r.stack f ≡ with_stack img.stacks r.stack lower
   cut_there =
       ap (λ (ws : List Word). with_stack img.stacks r.stack (take f ws)) whole
-      ∙ ap (with_stack img.stacks r.stack) (take-seam lower (mark ∷ control ∷ (cells ++ reverse core.words)) f refl)
+      ∙ ap (with_stack img.stacks r.stack) (take_front lower (mark ∷ control ∷ (cells ++ reverse core.words)) f refl)
 
   -- the result lies on the words of the part around
   pushed_there : (x : Word) → with_push (with_cut img.stacks r.stack f) r.stack x ≡ with_stack img.stacks r.stack (below ++ reverse (x ∷ words))
   pushed_there x =
       ap (λ (ss : Stacks). with_push ss r.stack x) cut_there
-      ∙ ap (λ (ws : List Word). with_stack (with_stack img.stacks r.stack lower) r.stack (ws ++ x ∷ [])) (words-set img.stacks r.stack (stack_of core) lower has.stack)
-      ∙ set-set img.stacks r.stack lower (lower ++ x ∷ [])
-      ∙ ap (with_stack img.stacks r.stack) (sym (stack-over below (x ∷ []) words))
+      ∙ ap (λ (ws : List Word). with_stack (with_stack img.stacks r.stack lower) r.stack (ws ++ x ∷ [])) (words_set img.stacks r.stack (stack_of core) lower has.stack)
+      ∙ set_set img.stacks r.stack lower (lower ++ x ∷ [])
+      ∙ ap (with_stack img.stacks r.stack) (sym (stack_over below (x ∷ []) words))
 
   leaving_seen : look_seen img.stacks (leaving (place r.stack f)) ≡ Ok leaving_of
   leaving_seen =
@@ -169,7 +170,7 @@ module _ (code : Code) (img : Image) (p : ℕ) (core : Core) (has : HasCore img 
     pub outer_is : place_at display b.control.caller_level ≡ Some (place r.stack b.frame) → length below ≡ b.frame + 2 + b.control.caller_cells → IsCore outer_core
     outer_is top long =
         let own : frame outer_core.registers ≡ b.frame = ap at_or top in
-        record { bottom = omega (arith, own, long); top = omega (arith, length-stack below words, length-append (given_words given) words) }
+        record { bottom = omega (arith, own, long); top = omega (arith, length_stack below words, length-append (given_words given) words) }
 
   -- ---- EXIT
 

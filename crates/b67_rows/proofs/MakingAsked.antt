@@ -1,6 +1,7 @@
 -- A head that makes arrays makes those that come first among the ones that are still to be made.
 use Rattle.std.proofs.Common.{◌≡◌, refl, ap, ◌∙◌, List, [], ◌∷◌, ◌++◌, true, false}
-use Rattle.b67_rows.proofs.Prelude.{PPair, Kind, Named, Ask, makes_arrays, makes_event, ask_hole, ask_actuals, ask_aim, ask, Hole, read, element, index, tests, broken, enter, inside, subscript, argument, left, right, negated, inverted, condition, Actuals, pass, in_value, Aim, resolve, place_index, inside_place, place_subscript, Rest, arrays, event, evaluating, locating, aiming, storing, choosing, looping, checking, counting, differing, stepping, selecting, calling, preparing, writing, bounding, Value, Made, an_event, made_in, all_to_make, all_left_to_make, true_false}
+use Rattle.b67_list.proofs.Truths.{true_false}
+use Rattle.b67_rows.proofs.Prelude.{PPair, Kind, Named, Ask, makes_arrays, makes_event, ask_hole, ask_actuals, ask_aim, ask, Hole, read, element, index, tests, broken, enter, inside, subscript, argument, left, right, negated, inverted, condition, Actuals, pass, in_value, Aim, resolve, place_index, inside_place, place_subscript, Rest, arrays, event, evaluating, locating, aiming, storing, choosing, looping, checking, counting, differing, stepping, selecting, calling, preparing, writing, bounding, Value, Made, an_event, made_in, all_to_make, all_left_to_make}
 use Rattle.b67_rows.proofs.Unmade.{makes}
 
 -- no head of an expression makes anything

@@ -4,19 +4,10 @@ use Rattle.b67_rows.proofs.Prelude.{if◌then◌else◌, nat_le, ◌&&◌, slice
 use Rattle.b67_table.specs.Chains.{below, entered_from, entered_below, if_apart}
 use Rattle.b67_standing.specs.Stepping.{reference, intrinsic, control, descriptor, mark}
 use Rattle.b67_cores.proofs.Moving.{slots_length}
-use Rattle.b67_rows.proofs.StackWords.{word-under}
+use Rattle.b67_cores.proofs.Operating.{newest_low}
+use Rattle.b67_rows.proofs.StackWords.{word_under}
 use Rattle.b67_rows.proofs.StoreRow.{most_is}
 use Rattle.b67_rows.proofs.Words.{mark_read}
-
--- the newest mark lies below all that lies above the floor
-pub newest_low : (home base : ℕ) (slots : List Slot) → home < base → newest home base slots < base + length slots
-newest_low home base [] low = omega (arith, low)
-newest_low home base (operand v ∷ slots) low = omega (arith, newest_low home base slots low)
-newest_low home base (reference n ∷ slots) low = omega (arith, newest_low home base slots low)
-newest_low home base (intrinsic i ∷ slots) low = omega (arith, newest_low home base slots low)
-newest_low home base (control c ∷ slots) low = omega (arith, newest_low home base slots low)
-newest_low home base (descriptor h ∷ slots) low = omega (arith, newest_low home base slots low)
-newest_low home base (mark ∷ slots) low = omega arith
 
 -- In a stack these words lie above a floor, and a frame's own mark, with a control word, lies below it.
 pub record Above (stacks : Stacks) (stack home : ℕ) (lower words : List Word) : Type 0 where
@@ -55,7 +46,7 @@ module _ (sc : Scopes) (known : List Known) (level : ℕ) (stacks : Stacks) (sta
       walk slots (front ++ x ∷ []) ws (is ∙ sym (append_assoc front (x ∷ []) ws)) are.1 (omega (arith, small)) (suc steps) few
   walk (mark ∷ slots) front (x ∷ ws) is are small (suc steps) few =
       let there : word_at stacks (place stack here) ≡ Some x =
-      above.lies here x (ap (λ (zs : List Word). slice_get (lower ++ reverse zs) here) is ∙ word-under lower front x ws here (omega (arith, slots_length sc known level home base slots ws are.1))) in
+      above.lies here x (ap (λ (zs : List Word). slice_get (lower ++ reverse zs) here) is ∙ word_under lower front x ws here (omega (arith, slots_length sc known level home base slots ws are.1))) in
       ap (λ (o : Option Word). look_seen stacks (chained (read_as as_mscw o) >-> on_mark here steps)) there
       ∙ ap (λ (o : Option Mscw). look_seen stacks (chained o >-> on_mark here steps)) (ap as_mscw are.0 ∙ mark_read df (omega (arith, small)))
       ∙ ap (λ (b : Bool). look_seen stacks (if b && nat_le df here then entered_from steps stack (here - df) else chain_broken)) (most_is 1 df (omega (arith, lowest)))

@@ -24,10 +24,6 @@ get_other (z ∷ zs) zero (suc j) y h = refl
 get_other (z ∷ zs) (suc k) zero y h = refl
 get_other (z ∷ zs) (suc k) (suc j) y h = get_other zs k j y (λ e. h (ap suc e))
 
-pub numbered_set : {A : Type 0} (xs : List A) (p : ℕ) (x y : A) → numbered xs p ≡ Some x → numbered (set_numbered xs p y) p ≡ Some y
-numbered_set xs zero x y e = cc
-numbered_set xs (suc k) x y e = get_set xs k x y e
-
 pub numbered_other : {A : Type 0} (xs : List A) (p q : ℕ) (y : A) → p ≢ q → numbered (set_numbered xs p y) q ≡ numbered xs q
 numbered_other xs zero q y h = refl
 numbered_other xs (suc k) zero y h = refl

@@ -1,8 +1,9 @@
 -- The world in which an instance is left: all else of it is the same.
 use Rattle.std.proofs.Common.{◌≡◌, ◌≢◌, ◌⊎◌, inl, inr, refl, sym, ap, ◌∙◌, ℕ, zero, suc, Option, Some, true}
+use Rattle.b67_list.proofs.Numbered.{numbered_set}
 use Rattle.b67_rows.proofs.Prelude.{numbered, Process, World, instance_at, ancestor}
 use Rattle.algol_meaning.specs.World.{Instance, or_no_instance, with_instance, with_process}
-use Rattle.b67_rows.proofs.Numbers.{same_or_not, numbered_set, numbered_other}
+use Rattle.b67_rows.proofs.Numbers.{same_or_not, numbered_other}
 
 -- what becomes of an instance when one is left
 pub record IsSameBut (x y : Instance) : Type 0 where

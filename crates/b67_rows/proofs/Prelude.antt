@@ -29,7 +29,7 @@ pub use Rattle.algol_paths.specs.Segments.{is_procedure, segment_of}
 pub use Rattle.algol_paths.specs.Texts.{InActuals, InAim, InDeclared, InHole, InItems, InRest, InStmt, InStmts}
 pub use Rattle.b67_word.specs.Word.{Word}
 pub use Rattle.b67_word.specs.declared.Place.{Place}
-pub use Rattle.b67_control.proofs.ControlLaws.{as_pcw-other, as_sirw-other, descriptor_laws, irw_laws}
+pub use Rattle.b67_control.proofs.ControlLaws.{as_pcw_other, as_sirw_other, descriptor_laws, irw_laws}
 pub use Rattle.b67_control.specs.Control.{as_descriptor, as_irw, as_mscw, as_pcw, as_rcw, as_sirw, event_word}
 pub use Rattle.b67_control.specs.Display.{place_at}
 pub use Rattle.b67_control.specs.declared.Descriptor.{Descriptor}
@@ -46,7 +46,6 @@ pub use Rattle.b67_segment.specs.declared.code.Code.{Code}
 pub use Rattle.b67_segment.specs.declared.code.Segment.{Segment}
 pub use Rattle.b67_store.proofs.StoreLaws.{opened_others}
 pub use Rattle.b67_store.specs.Store.{Stacks, stack_at, with_cut, with_push, with_stack, with_word, word_at, words_of, words_or}
-pub use Rattle.b67_table.proofs.Lists.{get_within}
 pub use Rattle.b67_table.specs.Arguments.{finished_at, if_chained}
 pub use Rattle.b67_table.specs.Arrays.{as_indexed, is_array_descriptor}
 pub use Rattle.b67_table.specs.Chains.{chain_broken, control_at, frame_below, left_to, link_of, linked, mark_at, place, rebuilt}
@@ -84,5 +83,5 @@ pub use Rattle.b67_cores.specs.Cores.{Core, HasCore, IsCore, stack_of, with_core
 pub use Rattle.b67_cores.specs.Slots.{Known, SlotIs, SlotsAre, ValueIs, newest}
 pub use Rattle.b67_footprints.specs.Laws.{HaveOwnStacks, ReachesNoOther}
 pub use Rattle.b67_footprints.specs.Reaching.{OperatorReaches}
-pub use Rattle.b67_faithful.proofs.Contradictions.{none_some, some_same, true_false}
-pub use Rattle.b67_faithful.proofs.Sources.{reverse-cons}
+pub use Rattle.b67_faithful.proofs.Contradictions.{some_same}
+pub use Rattle.b67_faithful.proofs.Sources.{reverse_cons}

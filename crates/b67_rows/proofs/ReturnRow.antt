@@ -10,7 +10,7 @@ use Rattle.b67_table.specs.Rows.{row, is_result, return_value}
 use Rattle.b67_table.specs.Table.{raw, class_at}
 use Rattle.b67_rows.proofs.LeaveRow.{not_zero, after, leave_does, leave_blocked, LeavesHere}
 use Rattle.b67_rows.proofs.Rows.{raw_is, words_are, action_is}
-use Rattle.b67_rows.proofs.StackWords.{word-over}
+use Rattle.b67_rows.proofs.StackWords.{word_over}
 use Rattle.b67_rows.proofs.StoreRow.{most_is}
 use Rattle.b67_rows.proofs.AtOperator.{AtOperator}
 
@@ -37,7 +37,7 @@ module _ (code : Code) (here : AtOperator code (ops.Plain kinds.Retn)) (leaves :
   top_word : word_at img.stacks (place r.stack (r.s - (0 + 1))) ≡ Some x
   top_word =
       ap (λ (ws : List Word). slice_get ws (r.s - (0 + 1))) (words_are img p core has ∙ ap (λ (ws : List Word). core.below ++ reverse ws) on_top)
-      ∙ word-over core.below x rest (r.s - (0 + 1)) (omega (arith, has.is.top, ap length on_top))
+      ∙ word_over core.below x rest (r.s - (0 + 1)) (omega (arith, has.is.top, ap length on_top))
 
   abbrev on_word : Word → Program
   on_word y = if is_result y && not (nat_eq (frame r) 0) then leave r next (y ∷ []) else see invalid

@@ -51,7 +51,3 @@ pub get_mapped : {A B : Type 0} (f : A → B) (xs : List A) (k : ℕ) (x : A) �
 get_mapped f [] k x e = cc
 get_mapped f (y ∷ ys) zero x e = let same : y ≡ x = cc in ap (λ z. Some (f z)) same
 get_mapped f (y ∷ ys) (suc k) x e = get_mapped f ys k x e
-
-pub length_mapped : {A B : Type 0} (f : A → B) (xs : List A) → length (map f xs) ≡ length xs
-length_mapped f [] = refl
-length_mapped f (x ∷ xs) = ap suc (length_mapped f xs)

@@ -1,5 +1,6 @@
 -- ENTR on START: a process is begun, or there are as many as there may be.
 use Rattle.std.proofs.Common.{◌≡◌, ◌≢◌, refl, sym, ap, ◌∙◌, ℕ, ◌+◌, ◌<◌, ◌≤◌, List, [], ◌∷◌, length, take, Option, Some, None, Bool, true, false, Ok, arith}
+use Rattle.b67_list.proofs.Numbers.{ltb_less, ltb_not_less}
 use Rattle.b67_rows.proofs.Prelude.{if◌then◌else◌, nat_lt, nat_le, reverse, pos, Word, Place, as_irw, as_sirw, as_pcw, event_word, place_at, Irw, Pcw, Registers, Sirw, Couple, Code, opened_others, words_of, words_or, word_at, with_stack, if_chained, finished_at, place, linked, chain_broken, Effect, gives, faults, Image, with_stacks, with_registers, most_cells, entered_mark, ◌>->◌, valid, look_seen, display_at, frame, at_or, reference, Test, answer, interrupt, fault, Program, effect_of, asked, see, ◌>>=◌, told, cell_place, cell_in, irw_or_sirw, reached, reached_in, one_sirw, on_path, Cell, Reached, see_found, Core, IsCore, with_core, stack_of}
 use Rattle.std.specs.Prelude.{ℤ}
 use Rattle.b67_num.specs.declared.FaultKind.TheVariants.{ProcessLimit}
@@ -19,10 +20,8 @@ use Rattle.b67_table.specs.Table.{raw}
 use Rattle.b67_rows.proofs.Begun.{with_process, core_of, core_beside, numbered_few}
 use Rattle.b67_rows.proofs.CriticalRow.{FirstDown, critical_found}
 use Rattle.b67_rows.proofs.Displays.{Links, shown, linked_seen, shown_top}
-use Rattle.b67_rows.proofs.EnterRow.{below_is}
 use Rattle.b67_rows.proofs.IntrinsicRows.{CallsIntrinsic, without_call, entered, chained_asked, cut_words}
 use Rattle.b67_rows.proofs.StoreRow.{most_is}
-use Rattle.b67_rows.proofs.TurnRow.{not_below}
 use Rattle.b67_rows.proofs.Words.{event_read, event_refers_nothing}
 use Rattle.b67_rows.proofs.AtOperator.{AtOperator}
 
@@ -197,7 +196,7 @@ module _ (code : Code) (here : AtOperator code (ops.Plain kinds.Entr)) (argument
   pub start_limit : most_processes ≤ img.started → raw code img p ≡ faults ProcessLimit
   start_limit full =
       row_tested
-      ∙ ap (λ (b : Bool). tested (limited (shown (place number 0) more) (Some critical) b)) (not_below img.started most_processes full)
+      ∙ ap (λ (b : Bool). tested (limited (shown (place number 0) more) (Some critical) b)) (ltb_not_less img.started most_processes full)
 
   abbrev begins : Registers
   begins = begins_with number pcw home task parameters more critical
@@ -210,7 +209,7 @@ module _ (code : Code) (here : AtOperator code (ops.Plain kinds.Entr)) (argument
       raw code img p ≡ gives (with_process (with_core img p (without_call core below c.m.df next)) (begins_with (img.started + 1) pcw home task parameters more critical) (first_stack pcw home parameters))
   start_raw few old =
       row_tested
-      ∙ ap (λ (b : Bool). tested (limited (shown (place number 0) more) (Some critical) b)) (below_is img.started most_processes few)
+      ∙ ap (λ (b : Bool). tested (limited (shown (place number 0) more) (Some critical) b)) (ltb_less img.started most_processes few)
       ∙ ap (λ (ws : List Word). gives (with_registers (with_stacks new (with_stack new.stacks r.stack (take r.f ws))) p (without_call core below c.m.df next).registers)) same_words
       ∙ ap (λ (ws : List Word). gives (with_registers (with_stacks new (with_stack new.stacks r.stack ws)) p (without_call core below c.m.df next).registers))
       (cut_words code here Start arguments reference marked below c)

@@ -1,5 +1,6 @@
 -- STOD on a cell of the process's own stack, which the reference under the top names.
 use Rattle.std.proofs.Common.{◌≡◌, refl, ap, ◌∙◌, ℕ, ◌+◌, ◌-◌, ◌≤◌, List, [], ◌∷◌, ◌++◌, length, take, Option, Some, None, Bool, true, false, arith}
+use Rattle.b67_list.proofs.Lists.{get_front, length_set}
 use Rattle.b67_rows.proofs.Prelude.{nat_tests, if◌then◌else◌, ◌==◌, nat_le, slice_get, slice_set, reverse, Word, Place, Descriptor, Registers, Code, Stacks, words_of, word_at, with_stack, with_word, with_cut, as_indexed, Effect, gives, Image, with_stacks, with_registers, Look, found, stops, ◌>->◌, valid, look_seen, floor, Program, does, effect_of, asked, see, answer, ◌>>=◌, save, Two, cell_of, cell_place, reached_in, named, from_top, operand_in, invalid, store_by, stored, Cell, StackUnderflow, Reached, told_by, operator_letter, Core, HasCore, with_core, stack_of}
 use Rattle.b67_ops.specs.declared.Operator.TheVariants as ops
 use Rattle.b67_ops.specs.declared.PlainKind.TheVariants as kinds
@@ -9,7 +10,7 @@ use Rattle.b67_table.specs.Table.{raw, class_at}
 use Rattle.b67_deeds.specs.declared.Letter.TheVariants.{Store, ElementStore}
 use Rattle.b67_letters.specs.Letters.{element_or_not, stored_letter}
 use Rattle.b67_rows.proofs.Rows.{raw_is, words_are}
-use Rattle.b67_rows.proofs.StackWords.{word-over, word-under, cut-stack, set-front, get-front, length-set, words-set, set-set}
+use Rattle.b67_rows.proofs.StackWords.{word_over, word_under, cut_stack, set_front, words_set, set_set}
 use Rattle.b67_rows.proofs.AtOperator.{AtOperator}
 
 pub most_is : (m n : ℕ) → m ≤ n → nat_le m n ≡ true
@@ -31,12 +32,12 @@ module _ (img : Image) (p : ℕ) (core : Core) (has : HasCore img p core) (x y :
   pub top_word : word_at img.stacks (record { stack = core.registers.stack; at = core.registers.s - 1 }) ≡ Some x
   top_word =
       ap (λ (ws : List Word). slice_get ws (core.registers.s - 1)) words_whole
-      ∙ word-over core.below x (y ∷ words) (core.registers.s - 1) (omega (arith, words_long))
+      ∙ word_over core.below x (y ∷ words) (core.registers.s - 1) (omega (arith, words_long))
 
   pub under_word : word_at img.stacks (record { stack = core.registers.stack; at = core.registers.s - 2 }) ≡ Some y
   under_word =
       ap (λ (ws : List Word). slice_get ws (core.registers.s - 2)) words_whole
-      ∙ word-under core.below (x ∷ []) y words (core.registers.s - 2) (omega (arith, words_long))
+      ∙ word_under core.below (x ∷ []) y words (core.registers.s - 2) (omega (arith, words_long))
 
 module _ (code : Code) (here : AtOperator code (ops.Plain kinds.Stod)) (x y old : Word) (words : List Word) (top : here.core.words ≡ x ∷ y ∷ words) (index f : ℕ)
     (names : cell_of here.core.registers y ≡ Some (record { frame = record { stack = here.core.registers.stack; at = f }; index = index })) (plain_word : as_indexed y ≡ None)
@@ -58,7 +59,7 @@ module _ (code : Code) (here : AtOperator code (ops.Plain kinds.Stod)) (x y old 
   old_word : word_at img.stacks (record { stack = r.stack; at = f + index }) ≡ Some old
   old_word =
       ap (λ (ws : List Word). slice_get ws (f + index)) (words_whole img p core has x y words top)
-      ∙ get-front core.below (reverse (x ∷ y ∷ words)) (f + index) old lies
+      ∙ get_front core.below (reverse (x ∷ y ∷ words)) (f + index) old lies
 
   abbrev after : Registers
   after = record r { s = r.s - 2 + 0; place = next }
@@ -67,12 +68,12 @@ module _ (code : Code) (here : AtOperator code (ops.Plain kinds.Stod)) (x y old 
   saved : with_cut (with_word img.stacks (record { stack = r.stack; at = f + index }) x) r.stack (r.s - 2) ≡ with_stack img.stacks r.stack (slice_set core.below (f + index) x ++ reverse words)
   saved =
       ap (λ (ws : List Word). with_cut (with_stack img.stacks r.stack (slice_set ws (f + index) x)) r.stack (r.s - 2)) (words_whole img p core has x y words top)
-      ∙ ap (λ (ws : List Word). with_cut (with_stack img.stacks r.stack ws) r.stack (r.s - 2)) (set-front core.below (reverse (x ∷ y ∷ words)) (f + index) x old lies)
+      ∙ ap (λ (ws : List Word). with_cut (with_stack img.stacks r.stack ws) r.stack (r.s - 2)) (set_front core.below (reverse (x ∷ y ∷ words)) (f + index) x old lies)
       ∙ ap (λ (ws : List Word). with_stack (with_stack img.stacks r.stack (slice_set core.below (f + index) x ++ reverse (x ∷ y ∷ words))) r.stack (take (r.s - 2) ws))
-      (words-set img.stacks r.stack (stack_of core) (slice_set core.below (f + index) x ++ reverse (x ∷ y ∷ words)) has.stack)
+      (words_set img.stacks r.stack (stack_of core) (slice_set core.below (f + index) x ++ reverse (x ∷ y ∷ words)) has.stack)
       ∙ ap (λ (ws : List Word). with_stack (with_stack img.stacks r.stack (slice_set core.below (f + index) x ++ reverse (x ∷ y ∷ words))) r.stack ws)
-      (cut-stack (slice_set core.below (f + index) x) (x ∷ y ∷ []) words (r.s - 2) (omega (arith, words_long img p core has x y words top, length-set core.below (f + index) x)))
-      ∙ set-set img.stacks r.stack (slice_set core.below (f + index) x ++ reverse (x ∷ y ∷ words)) (slice_set core.below (f + index) x ++ reverse words)
+      (cut_stack (slice_set core.below (f + index) x) (x ∷ y ∷ []) words (r.s - 2) (omega (arith, words_long img p core has x y words top, length_set core.below (f + index) x)))
+      ∙ set_set img.stacks r.stack (slice_set core.below (f + index) x ++ reverse (x ∷ y ∷ words)) (slice_set core.below (f + index) x ++ reverse words)
 
   abbrev two : Word → Word → Two
   two a b = record { x = a; y = b }

@@ -1,7 +1,8 @@
 -- What an operator reaches is in the private part of no other process, where near are the cells that it names and the frames to which marks and the
 -- display lead.
 use Rattle.std.proofs.Common.{◌≡◌, ◌⊎◌, inl, inr, refl, sym, ap, ◌∙◌, ℕ, ◌+◌, ◌-◌, ◌<◌, ◌≤◌, Some, arith}
-use Rattle.b67_rows.proofs.Prelude.{numbered, Word, Place, as_mscw, as_pcw, Mscw, Pcw, Registers, Operator, word_at, place, link_of, Image, critical_of, display_at, floor, cell_place, level_below, Cell, HaveOwnStacks, ReachesNoOther, OperatorReaches, some_same, none_some}
+use Rattle.b67_list.proofs.Numbers.{none_some}
+use Rattle.b67_rows.proofs.Prelude.{numbered, Word, Place, as_mscw, as_pcw, Mscw, Pcw, Registers, Operator, word_at, place, link_of, Image, critical_of, display_at, floor, cell_place, level_below, Cell, HaveOwnStacks, ReachesNoOther, OperatorReaches, some_same}
 use Rattle.b67_ops.specs.declared.Operator.TheVariants as ops
 use Rattle.b67_ops.specs.declared.PlainKind.TheVariants as kinds
 use Rattle.b67_table.specs.Sound.{Lives}

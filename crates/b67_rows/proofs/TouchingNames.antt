@@ -1,6 +1,7 @@
 -- The cells that an operator names, by what it finds: none, one, or one and the one to which that refers.
 use Rattle.std.proofs.Common.{◌≡◌, ◌⊎◌, inl, inr, sym, ap, ◌∙◌, subst, ℕ, ◌+◌, ◌<◌, Option, Some, None, true, false}
-use Rattle.b67_rows.proofs.Prelude.{Word, Place, irw_laws, as_pcw-other, as_irw, as_sirw, as_pcw, Irw, Pcw, Registers, Sirw, Couple, Operator, word_at, place, Image, display_at, cell_place, cell_in, couple_cell, irw_or_sirw, sirw_cell, cell_of, level_below, Cell, some_same, none_some}
+use Rattle.b67_list.proofs.Numbers.{none_some}
+use Rattle.b67_rows.proofs.Prelude.{Word, Place, irw_laws, as_pcw_other, as_irw, as_sirw, as_pcw, Irw, Pcw, Registers, Sirw, Couple, Operator, word_at, place, Image, display_at, cell_place, cell_in, couple_cell, irw_or_sirw, sirw_cell, cell_of, level_below, Cell, some_same}
 use Rattle.b67_control.proofs.ControlLaws.{sirw_laws}
 use Rattle.b67_ops.specs.declared.BranchKind.{BranchKind}
 use Rattle.b67_ops.specs.declared.Operator.TheVariants as ops
@@ -264,7 +265,7 @@ module _ (p : ℕ) (img : Image) (r : Registers) where
       IsCell d = d ≡ record { frame = f; index = i.index }
 
       no_control : as_pcw w ≡ None
-      no_control = as_pcw-other w (λ k. let is = sym (irw_laws.kind w i reads) ∙ k in cc)
+      no_control = as_pcw_other w (λ k. let is = sym (irw_laws.kind w i reads) ∙ k in cc)
 
       word_there : (d : Cell) (v : Word) → IsCell d → word_at img.stacks (cell_place d) ≡ Some v → word ≡ v
       word_there d v same lies_there = one_word (place f.stack (f.at + i.index)) word v there (subst (λ (k : Cell). word_at img.stacks (cell_place k) ≡ Some v) same lies_there)

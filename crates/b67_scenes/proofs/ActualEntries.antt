@@ -1,6 +1,7 @@
 -- The entry of an actual's code by the machine, where a process stands at VALC or EVAL.
 use Rattle.std.proofs.Common.{◌≡◌, refl, sym, ap, ◌∙◌, subst, ℕ, ◌+◌, ◌-◌, ◌*◌, ◌/◌, ◌%◌, ◌≤◌, ◌<◌, ◌^◌, List, [], ◌∷◌, ◌++◌, length, Option, Some, Ok, Bool, true, false, arith, length-append}
-use Rattle.b67_scenes.proofs.Prelude.{◌==◌, ◌&&◌, nat_le, block_numbered, around, level_of, PExpr, PProgram, Scopes, scopes_of, Kind, instance_at, segment_of, Word, Place, as_mscw-mscw_word, as_rcw-rcw_word, as_mscw, as_rcw, place_at, Pcw, Rcw, Operator, Code, stack_limit, word_at, numbered_within, place, linked, end_of_code, entered_mark, control_word, look_seen, read_as, frame, at_or, has_place, Has, LiesNested, Texts, Slot, slots_length, Core, IsCore, newest, SlotsAre, CoreAt, some_same, IsShortSegment, Links, shown, shown_top, linked_seen, lower_of, next_within, newest_low, segment_low, length-stack, Linked, Begins_with, begins_core, all_linked, runs_low, IsActual, IsInReach}
+use Rattle.b67_cores.proofs.Operating.{newest_low}
+use Rattle.b67_scenes.proofs.Prelude.{◌==◌, ◌&&◌, nat_le, block_numbered, around, level_of, PExpr, PProgram, Scopes, scopes_of, Kind, instance_at, segment_of, Word, Place, as_mscw_mscw_word, as_rcw_rcw_word, as_mscw, as_rcw, place_at, Pcw, Rcw, Operator, Code, stack_limit, word_at, numbered_within, place, linked, end_of_code, entered_mark, control_word, look_seen, read_as, frame, at_or, has_place, Has, LiesNested, Texts, Slot, slots_length, Core, IsCore, newest, SlotsAre, CoreAt, some_same, IsShortSegment, Links, shown, shown_top, linked_seen, lower_of, next_within, segment_low, length_stack, Linked, all_linked, runs_low, IsActual, IsInReach}
 use Rattle.b67_word.specs.Word as words
 use Rattle.b67_table.specs.Linkage as linkage
 use Rattle.b67_standing.specs.Standing.{selected}
@@ -48,9 +49,6 @@ module _ (tree : PProgram) (code : Code) (texts : Texts) (nested : LiesNested tr
 
   abbrev base : ℕ
   base = length core.below
-
-  begins : Begins_with img.stacks p core.below
-  begins = begins_core img p core s.has
 
   -- the place after an operator can be held
   pub can_return : (op : Operator) (next : ℕ) → Has (text_in tree texts w part) level s.stands.pc op next → next < end_of_code
@@ -110,11 +108,7 @@ module _ (tree : PProgram) (code : Code) (texts : Texts) (nested : LiesNested tr
     at = length (lower_of core rest)
 
     pub at_is : at ≡ base + length rest
-    at_is = length-stack core.below rest
-
-    -- what lies below is less than a stack
-    pub room : at ≤ stack_limit
-    room = omega (arith, at_is, ap length t.parted, length-append taken rest, s.small)
+    at_is = length_stack core.below rest
 
     pub own_is : own ≡ length s.stands.frame.lower
     own_is = frame_is tree code texts actor
@@ -189,7 +183,7 @@ module _ (tree : PProgram) (code : Code) (texts : Texts) (nested : LiesNested tr
 
     pub mark_reads : at < stack_limit → as_mscw (entered_mark home df) ≡ Some (record { entered = true; stack = f.number; displacement = high; df = df })
     mark_reads small =
-        as_mscw-mscw_word (record { entered = true; stack = f.number; displacement = high; df = df })
+        as_mscw_mscw_word (record { entered = true; stack = f.number; displacement = high; df = df })
         (low_number, (omega (arith, h.below, f.small), (omega (arith, small), tt)))
 
     abbrev pub back : Rcw
@@ -211,7 +205,7 @@ module _ (tree : PProgram) (code : Code) (texts : Texts) (nested : LiesNested tr
 
     pub control_reads : as_rcw (control_word core.registers next inner_level) ≡ Some back
     control_reads =
-        as_rcw-rcw_word back (
+        as_rcw_rcw_word back (
           omega (arith, s.stands.segment_is, segment_low sc.blocks ((instance_at w part.instance).block ∷ around sc.blocks ((instance_at w part.instance).block)) 1023 nested.nested.procedures_few),
           (omega arith, (omega (arith, t.returns), (omega (arith, s.stands.there.level_is, level_low), (omega (arith, few_cells), (omega (arith, inner_low), tt))))),
         )

@@ -1,6 +1,7 @@
 -- Where a process finds the control word of an actual's code: in the frame of the actual's instance, in whatever stack, and where that code stands.
 use Rattle.std.proofs.Common.{◌≡◌, refl, sym, ap, ◌∙◌, subst, ℕ, ◌+◌, List, ◌∷◌, ◌++◌, length, Some, arith, ◌<◌}
-use Rattle.b67_scenes.proofs.Prelude.{slice_get, block_numbered, level_of, PExpr, PProgram, Scopes, scopes_of, Kind, Instance, instance_at, or_no_instance, segment_of, numbered_small, Word, Place, Fits_pcw, as_sirw, pcw_word, Pcw, Code, word_at, get_within, place, cell_word, simple_cells, procedures, actuals_of, made_base, has_place, AreNested, Texts, context_of, control_words, some_same, get-front, get-behind, block_few, as_many_values, IsActual, block_controls, IsInReach, Framed}
+use Rattle.b67_list.proofs.Lists.{get_front, get_within}
+use Rattle.b67_scenes.proofs.Prelude.{slice_get, block_numbered, level_of, PExpr, PProgram, Scopes, scopes_of, Kind, Instance, instance_at, or_no_instance, segment_of, numbered_small, Word, Place, Fits_pcw, as_sirw, pcw_word, Pcw, Code, word_at, place, cell_word, simple_cells, procedures, actuals_of, made_base, has_place, AreNested, Texts, context_of, control_words, some_same, get_behind, block_few, as_many_values, IsActual, block_controls, IsInReach, Framed}
 use Rattle.algol_tree.specs.Plain as forms
 use Rattle.algol_meaning.specs.Choice.{is_subscripted}
 use Rattle.b67_templates.specs.Cells.{Actual, actual_base}
@@ -102,8 +103,8 @@ module _ (tree : PProgram) (code : Code) (texts : Texts) (nested : AreNested (sc
       cells_lie : slice_get h.found.lies.frame.cells (many + far) ≡ Some (control_of here.block)
       cells_lie =
           ap (λ (ws : List Word). slice_get ws (many + far)) framed_there.cells_is
-          ∙ get-behind framed_there.values (control_words (block_controls sc here.block ats) ++ framed_there.descriptors) far (many + far) (omega (arith, values_long))
-          ∙ get-front (control_words (block_controls sc here.block ats)) framed_there.descriptors far (control_of here.block) (get_routine sc here.block ats is.stands.number actual r.at there r.is)
+          ∙ get_behind framed_there.values (control_words (block_controls sc here.block ats) ++ framed_there.descriptors) far (many + far) (omega (arith, values_long))
+          ∙ get_front (control_words (block_controls sc here.block ats)) framed_there.descriptors far (control_of here.block) (get_routine sc here.block ats is.stands.number actual r.at there r.is)
 
       index_is : is.couple.index ≡ 2 + (many + far)
       index_is = omega (arith, is.stands.index_is, ap (λ (j : ℕ). actual_base sc (block_numbered sc.blocks j)) block_here)

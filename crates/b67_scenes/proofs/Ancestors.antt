@@ -1,6 +1,8 @@
 -- The static parents of an instance that stands, and the places of their frames, before and after a change of the world.
 use Rattle.std.proofs.Common.{◌≡◌, inl, inr, sym, ap, ◌∙◌, ℕ, zero, suc, length, Some, arith}
-use Rattle.b67_scenes.proofs.Prelude.{numbered, Scopes, Instance, World, instance_at, ancestor, IsStanding, Place, get_within as get_below, none_some, HasFacts, IsStandingOrNone, StandOn, Layout}
+use Rattle.b67_list.proofs.Lists.{get_within as get_below}
+use Rattle.b67_list.proofs.Numbers.{none_some}
+use Rattle.b67_scenes.proofs.Prelude.{numbered, Scopes, Instance, World, instance_at, ancestor, IsStanding, Place, HasFacts, IsStandingOrNone, StandOn, Layout}
 use Rattle.b67_rows.proofs.Numbers.{get_within}
 use Rattle.b67_frames.proofs.Onward.{StandsStill, climbs_still}
 

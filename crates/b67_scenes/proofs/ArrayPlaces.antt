@@ -1,6 +1,7 @@
 -- Where the descriptor of an array lies: in the frame of the instance that has made it. A reference to its cell is read back.
 use Rattle.std.proofs.Common.{◌≡◌, refl, sym, ap, ◌∙◌, subst, ℕ, ◌+◌, ◌<◌, ◌≤◌, ◌^◌, List, ◌++◌, length, Some, None, arith}
-use Rattle.b67_scenes.proofs.Prelude.{slice_get, map, numbered, block_numbered, PProgram, Scopes, scopes_of, Bounds, ArrayCell, array, NamedCell, Instance, instance_at, or_no_instance, cell_in, DeclaredArray, numbered_small, Word, Place, as_sirw, Code, stack_limit, word_at, get_within, place, most_processes, cell_word, found_from, simple_cells, made_base, made_of, AreNested, Texts, NearCell, block_few, controls_many, low_number, OwnCells, framed_cells, OwnArray, known_array, Allotted, DescriptorIs, AreSized, HasArray, IsArrayOf, block_controls, Framed}
+use Rattle.b67_list.proofs.Lists.{get_within}
+use Rattle.b67_scenes.proofs.Prelude.{slice_get, map, numbered, block_numbered, PProgram, Scopes, scopes_of, Bounds, ArrayCell, array, NamedCell, Instance, instance_at, or_no_instance, cell_in, DeclaredArray, numbered_small, Word, Place, as_sirw, Code, stack_limit, word_at, place, most_processes, cell_word, found_from, simple_cells, made_base, made_of, AreNested, Texts, NearCell, block_few, controls_many, low_number, OwnCells, framed_cells, OwnArray, known_array, Allotted, DescriptorIs, AreSized, HasArray, IsArrayOf, block_controls, Framed}
 use Rattle.algol_paths.specs.Arrays.{lows_of}
 use Rattle.b67_control.proofs.ControlLaws.{sirw_laws}
 use Rattle.b67_table.specs.declared.Cell.{Cell}

@@ -1,7 +1,8 @@
 -- A process that begins with the instance of a procedure lives: its frame lies at the bottom of its stack, and private operators lead from the
 -- procedure's first place to what the block has to do.
 use Rattle.std.proofs.Common.{◌≡◌, refl, sym, ap, ◌∙◌, subst, ℕ, ◌+◌, ◌*◌, ◌<◌, ◌≤◌, ◌^◌, List, [], ◌∷◌, ◌++◌, length, Option, Some, None, true, false, arith, append_assoc, append-nil, length-append}
-use Rattle.b67_scenes.proofs.Prelude.{replicate, slice_get, numbered, Block, block_numbered, level_of, PProgram, Scopes, scopes_of, some_depends, fresh_cells, settle_items, items_of, Cell, Instance, Part, Process, World, instance_at, or_no_instance, ancestor, KeepsToText, segment_of, IsStanding, Word, Place, as_mscw-mscw_word, as_rcw-rcw_word, pcw_word, place_at, Pcw, Rcw, Registers, Placed, Spells, Code, Segment, place, Image, entered_mark, base_control, at_or, parameter_cells, zero_cells, simple_cells, actuals_of, made_of, in_routine, yields_of, code_at, LiesNested, IsText, Texts, context_of, ComesTo, Core, IsCore, HasCore, CoreAt, control_words, CoreBegins, BlocksBegin, tokens_around, part_weight, weight, shown, shown_top, block_keeps, block_makes, block_few, routines_long, controls_many, LeadAll, lead_there, fresh_are, fresh_lead, simple_many, as_many_values, zero_word, cells_length, Allotted, Layout, AreMade, block_controls, controls_count, most_around, CellsAre, IsChained, home_of, Framed, RoutinesStand, ItemsStand, Frame, of_own, CriticalIs, TaskIs, Living, none_yet}
+use Rattle.b67_list.proofs.Lists.{length_map}
+use Rattle.b67_scenes.proofs.Prelude.{replicate, slice_get, numbered, Block, block_numbered, level_of, PProgram, Scopes, scopes_of, some_depends, fresh_cells, settle_items, items_of, Cell, Instance, Part, Process, World, instance_at, or_no_instance, ancestor, KeepsToText, segment_of, IsStanding, Word, Place, as_mscw_mscw_word, as_rcw_rcw_word, pcw_word, place_at, Pcw, Rcw, Registers, Placed, Spells, Code, Segment, place, Image, entered_mark, base_control, at_or, parameter_cells, zero_cells, simple_cells, actuals_of, made_of, in_routine, yields_of, code_at, LiesNested, IsText, Texts, context_of, ComesTo, Core, IsCore, HasCore, CoreAt, control_words, CoreBegins, BlocksBegin, tokens_around, part_weight, weight, shown, shown_top, block_keeps, block_makes, block_few, routines_long, controls_many, LeadAll, lead_there, fresh_are, fresh_lead, simple_many, as_many_values, zero_word, cells_length, Allotted, Layout, AreMade, block_controls, controls_count, most_around, CellsAre, IsChained, home_of, Framed, RoutinesStand, ItemsStand, Frame, of_own, CriticalIs, TaskIs, Living, none_yet}
 use Rattle.algol_meaning.specs.Instances as instances
 use Rattle.algol_meaning.specs.World.{started}
 use Rattle.b67_table.specs.declared.Cell.{Cell as MachineCell}
@@ -9,7 +10,6 @@ use Rattle.b67_table.specs.Starting.{place_of}
 use Rattle.b67_templates.specs.Code.{CellsAt}
 use Rattle.b67_templates.specs.Fragments.{FragmentGoes}
 use Rattle.b67_rows.proofs.Begun.{core_of}
-use Rattle.b67_rows.proofs.Segmented.{length_mapped}
 use Rattle.b67_rows.proofs.StartRow.{begins_with, first_stack, begins_is}
 use Rattle.b67_frames.proofs.Linked.{shown_chained}
 use Rattle.b67_scenes.proofs.Ancestors.{AreLaid}
@@ -152,7 +152,7 @@ module _ (tree : PProgram) (code : Code) (texts : Texts) (nested : LiesNested tr
           length-append (parameters ++ zeros) (control_words controls),
           as_many_values (simple_cells sc b) (fresh_cells b given) (parameters ++ zeros) cells_are,
           all_many,
-          length_mapped (λ (pcw : Pcw). pcw_word pcw) controls,
+          length_map (λ (pcw : Pcw). pcw_word pcw) controls,
         )
 
     -- ---- the core in its frame
@@ -227,9 +227,9 @@ module _ (tree : PProgram) (code : Code) (texts : Texts) (nested : LiesNested tr
           home = home;
           linked = e.home_is;
           df = 0;
-          mark_is = as_mscw-mscw_word (record { entered = true; stack = home.stack; displacement = home.at; df = 0 }) (e.home_fits.0, (e.home_fits.1, (omega arith, tt)));
+          mark_is = as_mscw_mscw_word (record { entered = true; stack = home.stack; displacement = home.at; df = 0 }) (e.home_fits.0, (e.home_fits.1, (omega arith, tt)));
           back = back;
-          control_is = as_rcw-rcw_word back (omega arith, (omega arith, (omega arith, (omega arith, (omega arith, (omega (arith, level_low), tt))))));
+          control_is = as_rcw_rcw_word back (omega arith, (omega arith, (omega arith, (omega arith, (omega arith, (omega (arith, level_low), tt))))));
           level_is = refl;
         }
 

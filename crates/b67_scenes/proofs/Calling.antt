@@ -1,6 +1,7 @@
 -- The call of an intrinsic, by what lies above the floor of the frame.
 use Rattle.std.proofs.Common.{◌≡◌, refl, sym, ap, ◌∙◌, subst, ℕ, ◌+◌, ◌-◌, ◌<◌, ◌≤◌, ◌^◌, List, [], ◌∷◌, ◌++◌, length, Option, Some, true, false, arith, lit<, append_assoc, length-append, ℤ}
-use Rattle.b67_scenes.proofs.Prelude.{reverse-append, slice_get, reverse, PProgram, Scopes, scopes_of, Value, number, whole_of, Word, as_whole, Place, as_pcw-pcw_word, as_irw, as_sirw, as_mscw, as_pcw, Mscw, Pcw, Sirw, intrinsic_number_of, couple_of_intrinsic, Couple, Intrinsic, Code, words_of, words_or, word_at, intrinsic_pcw, system_stack, place, woken_number, Look, ◌>->◌, look_seen, frame, cell_of, called_by, HasKind, Texts, operands, AreNumbers, Slot, operand, intrinsic, descriptor, mark, slots_length, number_read, Known, ValueIs, newest, SlotsAre, CoreAt, words_are, Top, top_slot, get-front, get-seam, reference_read, mark_read, pcw_no_sirw}
+use Rattle.b67_list.proofs.Lists.{get_front}
+use Rattle.b67_scenes.proofs.Prelude.{reverse-append, slice_get, reverse, PProgram, Scopes, scopes_of, Value, number, whole_of, Word, as_whole, Place, as_pcw_pcw_word, as_irw, as_sirw, as_mscw, as_pcw, Mscw, Pcw, Sirw, intrinsic_number_of, couple_of_intrinsic, Couple, Intrinsic, Code, words_of, words_or, word_at, intrinsic_pcw, system_stack, place, woken_number, Look, ◌>->◌, look_seen, frame, cell_of, called_by, HasKind, Texts, operands, AreNumbers, Slot, operand, intrinsic, descriptor, mark, slots_length, number_read, Known, ValueIs, newest, SlotsAre, CoreAt, words_are, Top, top_slot, get_seam, reference_read, mark_read, pcw_no_sirw}
 use Rattle.algol_tree.specs.declared.tree.Kind.TheVariants as types
 use Rattle.algol_meaning.specs.Value.{truth}
 use Rattle.b67_control.specs.declared.Irw.{Irw}
@@ -18,7 +19,7 @@ use Rattle.b67_letters.specs.Letters.{told_by, letter_of, intrinsic_letter, call
 use Rattle.b67_standing.specs.Stepping.{reference, control}
 use Rattle.b67_rows.proofs.EnterRow.{Called}
 use Rattle.b67_rows.proofs.IntrinsicRows.{CallsIntrinsic, without_call}
-use Rattle.b67_rows.proofs.StackWords.{word-under}
+use Rattle.b67_rows.proofs.StackWords.{word_under}
 use Rattle.b67_scenes.proofs.Scene.{frame_is, Actor}
 use Rattle.b67_scenes.proofs.Staying.{text_in, level_in, most_in, frame_low}
 
@@ -52,7 +53,7 @@ is_numbered names.Available = record { small = lit< tt; lies = refl; named = ref
 is_numbered names.Fix = record { small = lit< tt; lies = refl; named = refl }
 
 pcw_read : (name : Intrinsic) → as_pcw (intrinsic_pcw (intrinsic_number_of name)) ≡ Some (intrinsic_in name)
-pcw_read name = as_pcw-pcw_word (intrinsic_in name) (lit< tt, (lit< tt, (lit< tt, (lit< tt, (omega (arith, (is_numbered name).small), tt)))))
+pcw_read name = as_pcw_pcw_word (intrinsic_in name) (lit< tt, (lit< tt, (lit< tt, (lit< tt, (omega (arith, (is_numbered name).small), tt)))))
 
 -- ---- the arguments
 
@@ -133,7 +134,7 @@ module _ (sc : Scopes) (known : List Known) (level home base : ℕ) where
 
     -- a mark stands where the newest one lies
     pub marked_at : (slots : List Slot) (above all : List Word) → SlotsAre sc known level home base slots all → base + length slots ≤ 2 ^ 16 → Marked lower (above ++ all) (newest home base slots)
-    marked_at [] above all are small = record { word = own; lies = get-front lower (reverse (above ++ all)) home own own_lies; m = own_mark; reads = own_reads }
+    marked_at [] above all are small = record { word = own; lies = get_front lower (reverse (above ++ all)) home own own_lies; m = own_mark; reads = own_reads }
     marked_at (slot ∷ slots) above [] are small = absurd are
     marked_at (operand v ∷ slots) above (x ∷ ws) are small = under above x ws (newest home base slots) (marked_at slots (above ++ x ∷ []) ws are.1 (omega (arith, small)))
     marked_at (reference n ∷ slots) above (x ∷ ws) are small = under above x ws (newest home base slots) (marked_at slots (above ++ x ∷ []) ws are.1 (omega (arith, small)))
@@ -145,7 +146,7 @@ module _ (sc : Scopes) (known : List Known) (level home base : ℕ) where
         let low : df < 2 ^ 16 = omega (arith, small) in
         record {
           word = x;
-          lies = word-under lower above x ws (base + length slots) (omega (arith, long, slots_length sc known level home base slots ws are.1));
+          lies = word_under lower above x ws (base + length slots) (omega (arith, long, slots_length sc known level home base slots ws are.1));
           m = record { entered = false; stack = 0; displacement = 0; df = df };
           reads = ap as_mscw are.0 ∙ mark_read df low;
         }
@@ -185,7 +186,7 @@ module _ (tree : PProgram) (code : Code) (texts : Texts) (actor : Actor tree cod
     own_lies : slice_get core.below home ≡ Some s.stands.frame.mark
     own_lies =
         ap (λ (ws : List Word). slice_get ws home) s.stands.frame.words_are
-        ∙ get-seam s.stands.frame.lower s.stands.frame.mark (s.stands.frame.control ∷ s.stands.frame.cells) home home_is
+        ∙ get_seam s.stands.frame.lower s.stands.frame.mark (s.stands.frame.control ∷ s.stands.frame.cells) home home_is
 
     intrinsic_is : IsNumbered name
     intrinsic_is = is_numbered name
@@ -268,7 +269,7 @@ module _ (tree : PProgram) (code : Code) (texts : Texts) (actor : Actor tree cod
       reference_lies : word_at img.stacks (place core.registers.stack (core.registers.f + 1)) ≡ Some i.word
       reference_lies =
           ap (λ (ws : List Word). slice_get ws (core.registers.f + 1)) (words_are img p core s.has ∙ ap (λ (ws : List Word). core.below ++ reverse ws) all_words)
-          ∙ word-under core.below g.arguments i.word (k.word ∷ k.words_below) (core.registers.f + 1) (omega (arith, mark_at, long))
+          ∙ word_under core.below g.arguments i.word (k.word ∷ k.words_below) (core.registers.f + 1) (omega (arith, mark_at, long))
 
       abbrev entry_cell : Cell
       entry_cell = record { frame = place 0 0; index = intrinsic_number_of name }

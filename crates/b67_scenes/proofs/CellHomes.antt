@@ -1,6 +1,7 @@
 -- Where a process finds the cell of a parameter that stands for something else: in a frame that its display names.
 use Rattle.std.proofs.Common.{◌≡◌, sym, ap, ◌∙◌, subst, ℕ, suc, ◌+◌, ◌<◌, ◌^◌, List, [], ◌∷◌, length, Option, Some, Bool, true, false, arith}
-use Rattle.b67_scenes.proofs.Prelude.{if◌then◌else◌, slice_get, numbered, block_numbered, level_of, PProgram, Scopes, scopes_of, use_of, same_name, Named, Reference, Cell, reference, NamedCell, Instance, instance_at, or_no_instance, ancestor, cell_at, cell_in, BlockIsSeen, IsStanding, Word, Place, Couple, Code, word_at, get_within, place, display_at, Simple, Found, Wanted, simple_cells, found_from, AreNested, Texts, some_same, get-front, NearCell, cell_front, Denotes, named_from, CellsAre, IsInReach, Refers, Framed}
+use Rattle.b67_list.proofs.Lists.{get_front, get_within}
+use Rattle.b67_scenes.proofs.Prelude.{if◌then◌else◌, slice_get, numbered, block_numbered, level_of, PProgram, Scopes, scopes_of, use_of, same_name, Named, Reference, Cell, reference, NamedCell, Instance, instance_at, or_no_instance, ancestor, cell_at, cell_in, BlockIsSeen, IsStanding, Word, Place, Couple, Code, word_at, place, display_at, Simple, Found, Wanted, simple_cells, found_from, AreNested, Texts, some_same, NearCell, cell_front, Denotes, named_from, CellsAre, IsInReach, Refers, Framed}
 use Rattle.b67_frames.proofs.Knowing.{denotes_so}
 use Rattle.b67_scenes.proofs.Finding.{frame_near, place_near}
 use Rattle.b67_scenes.proofs.Led.{named_parent, named_reached, named_seen, named_shown, IsLed, cell_reached, cell_led}
@@ -127,7 +128,7 @@ module _ (tree : PProgram) (code : Code) (texts : Texts) (nested : AreNested (sc
       g = framed_there.formals c.far found.cell c.lies (subst (λ (o : Wanted). Refers o) (sym wanted_is) refers)
 
       among : slice_get here.cells c.far ≡ Some g.0
-      among = ap (λ (cells : List NamedCell). slice_get cells c.far) framed_there.has ∙ get-front framed_there.simple framed_there.arrays c.far g.0 g.2
+      among = ap (λ (cells : List NamedCell). slice_get cells c.far) framed_there.has ∙ get_front framed_there.simple framed_there.arrays c.far g.0 g.2
 
       -- what it leads to is in reach, as the instance is
       denotes_here : Denotes sc w lay (IsInReach w (part ∷ outer)) wanted g.0.cell g.1
@@ -149,7 +150,7 @@ module _ (tree : PProgram) (code : Code) (texts : Texts) (nested : AreNested (sc
 
       -- the values lie before the control words
       cells_lie : slice_get h.found.lies.frame.cells c.far ≡ Some g.1
-      cells_lie = ap (λ (ws : List Word). slice_get ws c.far) framed_there.cells_is ∙ get-front framed_there.values _ c.far g.1 g.3
+      cells_lie = ap (λ (ws : List Word). slice_get ws c.far) framed_there.cells_is ∙ get_front framed_there.values _ c.far g.1 g.3
 
       low : length h.found.lies.frame.lower + (2 + c.far) < length h.found.core.below
       low =

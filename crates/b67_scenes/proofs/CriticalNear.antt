@@ -1,6 +1,7 @@
 -- The critical place of a process that lives is below the floor of the stack in which it lies: the frame of the critical instance has its two words there.
 use Rattle.std.proofs.Common.{◌≡◌, inr, refl, sym, ap, ◌∙◌, subst, ℕ, Option, Some, None}
-use Rattle.b67_scenes.proofs.Prelude.{numbered, PProgram, scopes_of, World, stack_forth, IsOk, IsStanding, IsWholeInstance, stack_of, Place, Registers, Code, Image, Lives, AreNested, Texts, some_same, none_some, NearFrame, Layout, CriticalIs, PicturesBy}
+use Rattle.b67_list.proofs.Numbers.{none_some}
+use Rattle.b67_scenes.proofs.Prelude.{numbered, PProgram, scopes_of, World, stack_forth, IsOk, IsStanding, IsWholeInstance, stack_of, Place, Registers, Code, Image, Lives, AreNested, Texts, some_same, NearFrame, Layout, CriticalIs, PicturesBy}
 use Rattle.b67_scenes.proofs.TouchingOthers.{LivesThere, lives_there}
 use Rattle.b67_scenes.proofs.Finding.{find, found_laid, standing_near}
 

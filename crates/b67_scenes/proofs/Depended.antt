@@ -28,9 +28,6 @@ owned_in homes n (x ∷ xs) a o (inl same) = (o.0, ap (slice_get homes) (sym sam
 owned_in homes n (x ∷ xs) a o (inr later) = owned_in homes n xs a o.4 later
 
 module _ (tree : PProgram) (code : Code) (texts : Texts) (w : World) (lay : Layout) (img : Image) (by : PicturesBy tree code texts w lay img) (ok : IsOk (scopes_of tree) IsWholeInstance w) where
-  abbrev FoundAt : ℕ → Type 0
-  FoundAt i = Found tree code texts w lay img i
-
   there : (i : ℕ) (f : Found tree code texts w lay img i) → numbered w.instances i ≡ Some f.lies.owned.framed.instance
   there i f = ap (λ (j : ℕ). numbered w.instances j) (sym f.lies.instance_is) ∙ f.lies.owned.framed.is
 

@@ -1,12 +1,13 @@
 -- Whether a live process depends on an instance: in a world, and by the critical places of its image.
 use Rattle.std.proofs.Common.{◌≡◌, ◌≢◌, ◌⊎◌, inl, inr, refl, sym, ap, ◌∙◌, ℕ, zero, suc, List, [], ◌∷◌, length, Option, Some, None, Bool, true, false, arith}
-use Rattle.b67_scenes.proofs.Prelude.{list_any, ◌&&◌, ◌||◌, ◌==◌, slice_get, numbered, PProgram, scopes_of, is_this, some_depends, is_evaluation, Instance, Process, Part, State, lives, World, stack_forth, IsOk, IsWholeInstance, IsStanding, stack_of, IsOwn, Word, Place, Registers, Code, same_place-self, same_place, get_within as get_below, place, Image, is_live, live_criticals, ProcessState, Able, WaitsFor, WaitsAny, Procures, Ended, Texts, some_same, none_some, same_is, same_or_not, numbered_beyond, Layout, Frame, Around, CriticalIs, Pictured, living, dead, PicturesBy}
+use Rattle.b67_list.proofs.Lists.{get_within as get_below}
+use Rattle.b67_list.proofs.Numbers.{none_some, number_different, number_told}
+use Rattle.b67_list.proofs.Truths.{and_false}
+use Rattle.b67_scenes.proofs.Prelude.{list_any, ◌&&◌, ◌||◌, ◌==◌, slice_get, numbered, PProgram, scopes_of, is_this, some_depends, is_evaluation, Instance, Process, Part, State, lives, World, stack_forth, IsOk, IsWholeInstance, IsStanding, stack_of, IsOwn, Word, Place, Registers, Code, same_place_self, same_place, place, Image, is_live, live_criticals, ProcessState, Able, WaitsFor, WaitsAny, Procures, Ended, Texts, some_same, same_or_not, numbered_beyond, Layout, Frame, Around, CriticalIs, Pictured, living, dead, PicturesBy}
 use Rattle.b67_table.specs.Image.{is_ended}
 use Rattle.b67_table.specs.Questions.{with_critical, unless}
 use Rattle.b67_scenes.proofs.Heights.{alone_there, none_there}
 use Rattle.b67_rows.proofs.Numbers.{get_within}
-use Rattle.b67_frames.proofs.Subscripts.{and_false}
-use Rattle.b67_frames.proofs.ArraysKept.{is_other}
 
 -- a critical place is this one
 abbrev has_place : Place → Option Place → Bool
@@ -79,8 +80,8 @@ other_there : (f g : Place) → f ≢ g → same_place f g ≡ false
 other_there f g n = by_stack (same_or_not f.stack g.stack) (same_or_not f.at g.at)
   where
     by_stack : (f.stack ≡ g.stack) ⊎ (f.stack ≢ g.stack) → (f.at ≡ g.at) ⊎ (f.at ≢ g.at) → same_place f g ≡ false
-    by_stack (inr other) h = ap (λ (b : Bool). b && (f.at == g.at)) (is_other f.stack g.stack other)
-    by_stack (inl same) (inr other) = ap (λ (b : Bool). (f.stack == g.stack) && b) (is_other f.at g.at other) ∙ and_false (f.stack == g.stack)
+    by_stack (inr other) h = ap (λ (b : Bool). b && (f.at == g.at)) (number_different f.stack g.stack other)
+    by_stack (inl same) (inr other) = ap (λ (b : Bool). (f.stack == g.stack) && b) (number_different f.at g.at other) ∙ and_false (f.stack == g.stack)
     by_stack (inl same) (inl also) = absurd (n (ap (λ (s : ℕ). place s f.at) same ∙ ap (λ (t : ℕ). place g.stack t) also))
 
 -- who lives has not ended
@@ -150,9 +151,9 @@ module _ (tree : PProgram) (code : Code) (texts : Texts) (w : World) (lay : Layo
 
           by_number : (c ≡ i) ⊎ (c ≢ i) → (c == i) ≡ same_place g told.0
           by_number (inl same) =
-              same_is c i same ∙ sym (same_place-self g told.0 (some_same (sym laid ∙ ap (λ (n : ℕ). numbered lay.places n) (sym same) ∙ told.2)))
+              number_told c i same ∙ sym (same_place_self g told.0 (some_same (sym laid ∙ ap (λ (n : ℕ). numbered lay.places n) (sym same) ∙ told.2)))
           by_number (inr other) =
-              is_other c i other
+              number_different c i other
               ∙ sym (other_there g told.0 (λ (same : g ≡ told.0). other
               (alone_there tree code texts w lay p part outer words f a img by ok q is todo i own g laid c stands.instance stands.is stands.stands (told.2 ∙ ap (λ (y : Place). Some y) (sym same)))))
 

@@ -1,6 +1,6 @@
 -- The entry of a block or a procedure by the machine, where a process stands at it.
 use Rattle.std.proofs.Common.{◌≡◌, refl, sym, ap, ◌∙◌, subst, ℕ, ◌+◌, ◌-◌, ◌*◌, ◌/◌, ◌%◌, ◌≤◌, ◌<◌, List, [], ◌∷◌, ◌++◌, length, Option, Some, Ok, true, false, arith, length-append}
-use Rattle.b67_scenes.proofs.Prelude.{nat_tests, ◌==◌, ◌&&◌, nat_le, slice_get, Block, block_numbered, around, level_of, PProgram, Scopes, scopes_of, Given, Part, World, instance_at, segment_of, Word, Place, as_mscw-mscw_word, as_rcw-rcw_word, as_mscw, as_rcw, place_at, Mscw, Pcw, Rcw, Spells, Code, Segment, stack_limit, place, linked, gives, most_processes, end_of_code, entered_mark, control_word, look_seen, frame, at_or, cell_of, plain, operator_at, called_by, Wanted, simple_cells, Has, code_at, AreNested, LiesNested, Texts, given_slots, Slot, mark, slots_length, Core, IsCore, with_core, newest, SlotsAre, CoreAt, control_words, IsShortSegment, shown, shown_top, linked_seen, lower_of, AreFit, Taken, taken_words, next_within, newest_low, segment_low, Top, top_slot, length-stack, mark_read, made_many, block_few, as_many_controls, controls_many, Linked, Begins_with, begins_core, all_linked, runs_low, as_many_values, Layout, block_controls, IsComplete, Framed, Frame, Shape, of_own, of_lent, IsInReach}
+use Rattle.b67_scenes.proofs.Prelude.{nat_tests, ◌==◌, ◌&&◌, nat_le, slice_get, Block, block_numbered, around, level_of, PProgram, Scopes, scopes_of, Given, Part, World, instance_at, segment_of, Word, Place, as_mscw_mscw_word, as_rcw_rcw_word, as_mscw, as_rcw, place_at, Mscw, Pcw, Rcw, Spells, Code, Segment, stack_limit, place, linked, gives, most_processes, end_of_code, entered_mark, control_word, look_seen, frame, at_or, cell_of, plain, operator_at, called_by, Wanted, simple_cells, Has, code_at, AreNested, LiesNested, Texts, given_slots, Slot, mark, slots_length, Core, IsCore, with_core, newest, SlotsAre, CoreAt, control_words, IsShortSegment, shown, shown_top, linked_seen, lower_of, AreFit, Taken, taken_words, next_within, segment_low, Top, top_slot, length_stack, mark_read, made_many, block_few, as_many_controls, controls_many, Linked, all_linked, runs_low, as_many_values, Layout, block_controls, IsComplete, Framed, Frame, Shape, of_own, of_lent, IsInReach}
 use Rattle.algol_tree.specs.declared.TheConstants.{MOST_BLOCK_CELLS}
 use Rattle.b67_deeds.specs.declared.Letter.TheVariants.{Enter}
 use Rattle.b67_ops.specs.declared.Operator.TheVariants as ops
@@ -8,6 +8,7 @@ use Rattle.b67_ops.specs.declared.PlainKind.TheVariants as kinds
 use Rattle.b67_table.specs.Outcome as outcomes
 use Rattle.b67_table.specs.Table.{raw, table}
 use Rattle.b67_cores.specs.Slots.{SlotIs}
+use Rattle.b67_cores.proofs.Operating.{newest_low}
 use Rattle.b67_letters.specs.Letters.{letter}
 use Rattle.b67_rows.proofs.EntryRow.{Leads, Enters, with_frame, enter_raw, enter_class, enter_action, new_is}
 use Rattle.b67_rows.proofs.Rows.{action_not_plain}
@@ -62,9 +63,6 @@ module _ (tree : PProgram) (code : Code) (texts : Texts) (nested : LiesNested tr
 
   abbrev base : ℕ
   base = length core.below
-
-  pub begins : Begins_with img.stacks p core.below
-  begins = begins_core img p core s.has
 
   -- ENTR stands there, and finds the words of these actuals on a word on a mark. That leads to code of the block of this number, whose
   -- instance is to have that parent.
@@ -146,7 +144,7 @@ module _ (tree : PProgram) (code : Code) (texts : Texts) (nested : LiesNested tr
     at = length (lower_of core more)
 
     pub at_is : core.registers.f ≡ at
-    at_is = mark_at ∙ sym (length-stack core.below more)
+    at_is = mark_at ∙ sym (length_stack core.below more)
 
     -- what lies below is less than a stack
     pub room : base + length more + 2 + length arguments ≤ stack_limit
@@ -162,7 +160,7 @@ module _ (tree : PProgram) (code : Code) (texts : Texts) (nested : LiesNested tr
     far =
         let lowest : newest own base waiting < base + length waiting = newest_low own base waiting (omega (arith, own_is, own_low)) in
         let here : newest (length s.stands.frame.lower) base waiting ≡ newest own base waiting = ap (λ (n : ℕ). newest n base waiting) (sym own_is) in
-        omega (arith, lowest, here, as_many, length-stack core.below more)
+        omega (arith, lowest, here, as_many, length_stack core.below more)
 
     -- ---- the frame of the parent
 
@@ -196,7 +194,7 @@ module _ (tree : PProgram) (code : Code) (texts : Texts) (nested : LiesNested tr
 
     pub mark_reads : as_mscw (entered_mark home df) ≡ Some (record { entered = true; stack = home.stack; displacement = home.at; df = df })
     mark_reads =
-        as_mscw-mscw_word (record { entered = true; stack = home.stack; displacement = home.at; df = df })
+        as_mscw_mscw_word (record { entered = true; stack = home.stack; displacement = home.at; df = df })
         (omega (arith, e.few), (omega (arith, e.low), (omega (arith, as_many, room), tt)))
 
     abbrev pub back : Rcw
@@ -219,7 +217,7 @@ module _ (tree : PProgram) (code : Code) (texts : Texts) (nested : LiesNested tr
 
     pub control_reads : as_rcw (control_word core.registers next inner_level) ≡ Some back
     control_reads =
-        as_rcw-rcw_word back (
+        as_rcw_rcw_word back (
           omega (arith, s.stands.segment_is, segment_low sc.blocks ((instance_at w part.instance).block ∷ around sc.blocks ((instance_at w part.instance).block)) 1023 nested.nested.procedures_few),
           (omega arith, (omega (arith, returns), (omega (arith, s.stands.there.level_is, level_low), (omega (arith, few_cells), (omega (arith, inner_low), tt))))),
         )

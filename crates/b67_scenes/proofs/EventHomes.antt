@@ -1,7 +1,8 @@
 -- Where a process finds an event: its word lies in the frame of one of its parts. A name that a block declares means one that is made; that of
 -- a parameter leads to one.
 use Rattle.std.proofs.Common.{◌≡◌, ◌⊎◌, inl, inr, refl, sym, ap, ◌∙◌, subst, ℕ, ◌+◌, ◌<◌, ◌≤◌, ◌^◌, List, ◌∷◌, length, Option, Some, arith, None}
-use Rattle.b67_scenes.proofs.Prelude.{slice_get, block_numbered, level_of, PProgram, PBody, Scopes, scopes_of, use_of, Named, ask, Reference, Cell, event, reference, NamedCell, Instance, instance_at, or_no_instance, ancestor, cell_in, cell_at, by_cell, followed, BlockIsSeen, IsSeenAround, IsInner, InRest, numbered_small, IsNoBlock, Word, as_irw, as_sirw, event_word, Registers, Couple, Code, word_at, get_within, place, Image, display_at, cell_place, cell_word, simple_cells, made_base, found_from, made_of, made_from, AreNested, Texts, some_same, IsAsked, ArraySeen, NearCell, block_few, controls_many, FindsEvent, directly, by_reference, up_complete, OwnCells, framed_cells, none_later, OwnEvent, IsParent, Denotes, named_from, HasEvent, IsComplete, IsInReach, Framed, block_controls, IsEventAt}
+use Rattle.b67_list.proofs.Lists.{get_within}
+use Rattle.b67_scenes.proofs.Prelude.{slice_get, block_numbered, level_of, PProgram, PBody, Scopes, scopes_of, use_of, Named, ask, Reference, Cell, event, reference, NamedCell, Instance, instance_at, or_no_instance, ancestor, cell_in, cell_at, by_cell, followed, BlockIsSeen, IsSeenAround, IsInner, InRest, numbered_small, IsNoBlock, Word, as_irw, as_sirw, event_word, Registers, Couple, Code, word_at, place, Image, display_at, cell_place, cell_word, simple_cells, made_base, found_from, made_of, made_from, AreNested, Texts, some_same, IsAsked, ArraySeen, NearCell, block_few, controls_many, FindsEvent, directly, by_reference, up_complete, OwnCells, framed_cells, none_later, OwnEvent, IsParent, Denotes, named_from, HasEvent, IsComplete, IsInReach, Framed, block_controls, IsEventAt}
 use Rattle.algol_paths.specs.Arrays.{an_event}
 use Rattle.b67_table.specs.declared.Cell.{Cell as MachineCell}
 use Rattle.b67_templates.specs.Cells as wants

@@ -1,6 +1,6 @@
 -- An event of an instance that stands becomes another one: its cells, the arrays and the events of the image after it.
 use Rattle.std.proofs.Common.{◌≡◌, ◌≢◌, refl, sym, ap, ◌∙◌, subst, ℕ, ◌+◌, List, [], ◌∷◌, ◌++◌, length, Some}
-use Rattle.b67_scenes.proofs.Prelude.{slice_get, slice_set, numbered, EventState, block_numbered, PProgram, Scopes, scopes_of, event, NamedCell, Instance, Part, World, instance_at, or_no_instance, with_instance, cell_in, cells_with, Made, IsOwn, Word, Place, Code, Event, place, Simple, simple_cells, made_base, Texts, Core, some_same, get-behind, KeepsArrays, Lies, lies_in, OwnCells, OwnEvent, cells_length, Layout, AreMade, ArraysAre, HasEvent, EventsAre, CellsAre, Framed, Frames}
+use Rattle.b67_scenes.proofs.Prelude.{slice_get, slice_set, numbered, EventState, block_numbered, PProgram, Scopes, scopes_of, event, NamedCell, Instance, Part, World, instance_at, or_no_instance, with_instance, cell_in, cells_with, Made, IsOwn, Word, Place, Code, Event, place, Simple, simple_cells, made_base, Texts, Core, some_same, get_behind, KeepsArrays, Lies, lies_in, OwnCells, OwnEvent, cells_length, Layout, AreMade, ArraysAre, HasEvent, EventsAre, CellsAre, Framed, Frames}
 use Rattle.algol_meaning.specs.Events.{set_event}
 use Rattle.b67_events.specs.Events.{event_changed}
 use Rattle.b67_events.specs.Laws.{StaysInPlace}
@@ -107,7 +107,7 @@ module _ (sc : Scopes) (w : World) (lay : Layout) (i : ℕ) (x : Instance) (own 
       (some_same
       (sym lies
       ∙ ap (λ (cs : List NamedCell). slice_get cs (front + number)) cells_are
-      ∙ get-behind own.simple (slice_set own.arrays number (record { name = name; cell = event later })) number (front + number) (ap (λ (n : ℕ). n + number) (sym simple_many))
+      ∙ get_behind own.simple (slice_set own.arrays number (record { name = name; cell = event later })) number (front + number) (ap (λ (n : ℕ). n + number) (sym simple_many))
       ∙ get_set own.arrays number (record { name = name; cell = event found.cell }) (record { name = name; cell = event later }) found.there))
 
   others_are : (k : ℕ) → k ≢ front + number → slice_get cells' k ≡ slice_get x.cells k

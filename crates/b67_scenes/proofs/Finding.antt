@@ -1,6 +1,7 @@
 -- Where the frame of an instance that stands lies, in whatever stack, and how much of it lies below the floor of the process whose stack that is.
 use Rattle.std.proofs.Common.{◌≡◌, inl, inr, refl, sym, ap, ◌∙◌, subst, ℕ, ◌+◌, ◌<◌, ◌≤◌, Bool, false, List, [], ◌∷◌, ◌++◌, length, Some, arith, append_assoc, append-nil}
-use Rattle.b67_scenes.proofs.Prelude.{if◌then◌else◌, slice_get, numbered, block_numbered, PProgram, Scopes, scopes_of, is_evaluation, own_instances, some_depends, Instance, Process, Part, State, lives, World, instance_at, stack_forth, IsOk, IsLow, IsInSkeleton, IsStanding, IsOwn, IsWholeInstance, stack_of, Word, Place, Code, word_at, stack_limit, place, Image, made_base, Texts, steps_stay_above, Core, size, HasCore, Above, some_same, get-front, get-behind, Near, below_floor, NearFrame, IsNearStack, own_stack, begins_core, Lies, owned_frame, lies_low, lies_around, Layout, FrameStands, Around, Frames, Living, Pictured, living, dead, PicturesBy, CoreReaches, ReachesFor}
+use Rattle.b67_list.proofs.Lists.{get_front}
+use Rattle.b67_scenes.proofs.Prelude.{if◌then◌else◌, slice_get, numbered, block_numbered, PProgram, Scopes, scopes_of, is_evaluation, own_instances, some_depends, Instance, Process, Part, State, lives, World, instance_at, stack_forth, IsOk, IsLow, IsInSkeleton, IsStanding, IsOwn, IsWholeInstance, stack_of, Word, Place, Code, word_at, stack_limit, place, Image, made_base, Texts, steps_stay_above, Core, size, HasCore, Above, some_same, get_behind, Near, below_floor, NearFrame, IsNearStack, own_stack, begins_core, Lies, owned_frame, lies_low, lies_around, Layout, FrameStands, Around, Frames, Living, Pictured, living, dead, PicturesBy, CoreReaches, ReachesFor}
 use Rattle.b67_rows.proofs.Numbers.{get_within}
 use Rattle.b67_frames.proofs.Linked.{Entered, AreEntered, lies_entered}
 use Rattle.b67_scenes.specs.Reaches as reaching
@@ -40,10 +41,6 @@ module _ (tree : PProgram) (code : Code) (texts : Texts) (w : World) (lay : Layo
     pub shows : Shows process i (length lies.frame.lower) (length lies.frame.cells) core
 
   module _ (i : ℕ) (f : Found i) where
-    -- where its frame lies
-    abbrev pub frame_at : Place
-    frame_at = place f.number (length f.lies.frame.lower)
-
     abbrev high : ℕ
     high = length f.lies.frame.lower
 
@@ -70,14 +67,14 @@ module _ (tree : PProgram) (code : Code) (texts : Texts) (w : World) (lay : Layo
     settled_word : (n : ℕ) (word : Word) → slice_get words n ≡ Some word → slice_get f.settled (high + n) ≡ Some word
     settled_word n word e =
         ap (λ (ws : List Word). slice_get ws (high + n)) f.lies.words_are
-        ∙ get-front f.lies.front f.lies.rest (high + n) word
-        (ap (λ (ws : List Word). slice_get ws (high + n)) f.lies.frame.words_are ∙ get-behind f.lies.frame.lower words n (high + n) refl ∙ e)
+        ∙ get_front f.lies.front f.lies.rest (high + n) word
+        (ap (λ (ws : List Word). slice_get ws (high + n)) f.lies.frame.words_are ∙ get_behind f.lies.frame.lower words n (high + n) refl ∙ e)
 
     -- a word below the floor lies in the stack, where the process has it where it settles
     pub settled_sees : (n : ℕ) (x : Word) → n < length f.core.below → slice_get f.settled n ≡ Some x → word_at img.stacks (place f.number n) ≡ Some x
     settled_sees n x low e =
         let there : (y : Word) × (slice_get f.core.below n ≡ Some y) = get_within f.core.below n low in
-        let same : there.0 ≡ x = some_same (sym (get-front f.core.below f.to_come n there.0 there.1) ∙ ap (λ (ws : List Word). slice_get ws n) (sym f.settles) ∙ e) in
+        let same : there.0 ≡ x = some_same (sym (get_front f.core.below f.to_come n there.0 there.1) ∙ ap (λ (ws : List Word). slice_get ws n) (sym f.settles) ∙ e) in
         begins_core img f.number f.core f.has n x (there.1 ∙ ap (λ (y : Word). Some y) same)
 
     -- so does one of the frame

@@ -1,6 +1,6 @@
 -- Under the frame of a part lies that of the part around it, to which the marks lead down.
 use Rattle.std.proofs.Common.{◌≡◌, refl, ap, ◌∙◌, subst, ℕ, ◌+◌, ◌≤◌, List, ◌∷◌, ◌++◌, length, Ok, arith}
-use Rattle.b67_scenes.proofs.Prelude.{reverse, PProgram, Scopes, scopes_of, Part, World, Word, as_mscw, as_rcw, Code, Stacks, stack_limit, place, left_to, read_as, look_seen, Below, Texts, slots_length, newest, entered_to, length-stack, Begins_with, begins_front, mark_there, control_there, Layout, Frame, Waits, Around}
+use Rattle.b67_scenes.proofs.Prelude.{reverse, PProgram, Scopes, scopes_of, Part, World, Word, as_mscw, as_rcw, Code, Stacks, stack_limit, place, left_to, read_as, look_seen, Below, Texts, slots_length, newest, entered_to, length_stack, Begins_with, begins_front, mark_there, control_there, Layout, Frame, Waits, Around}
 use Rattle.b67_rows.proofs.Marks.{Above, left_seen}
 use Rattle.b67_scenes.proofs.Staying.{level_in, frame_low}
 
@@ -38,7 +38,7 @@ module _ (tree : PProgram) (code : Code) (texts : Texts) (w : World) (lay : Layo
   many = slots_length sc u.held (level_in tree w next) home (length u.below) u.slots u.words u.words_are
 
   pub height : f ≡ length u.below + length u.words
-  height = ap length u.lower_is ∙ length-stack u.below u.words
+  height = ap length u.lower_is ∙ length_stack u.below u.words
 
   pub top : f + 2 + length frame.cells ≡ length all
   top = frame_low tree code texts w lay p part (next ∷ parts) all frame

@@ -1,6 +1,8 @@
 -- Processes come to other states in a world and in its image; and those that wait are able again, whom an event releases.
 use Rattle.std.proofs.Common.{◌≡◌, ◌≢◌, ◌⊎◌, inl, inr, refl, sym, ap, ◌∙◌, subst, ℕ, zero, suc, List, [], ◌∷◌, length, Option, Some, None, true}
-use Rattle.b67_scenes.proofs.Prelude.{slice_set, numbered, set_numbered, IsListed, PProgram, scopes_of, list_in, Process, State, able, lives, World, process_at, or_no_process, with_process, Place, Code, waiters_at, list_of, Image, is_live, woken_number, AwaitsAt, ProcessState, Able, Texts, Core, HasCore, length_set_numbered, true_false, same_or_not, numbered_set, numbered_other, arrays_unchanged, events_unchanged, HasFacts, Layout, Living, Pictured, living, dead, PicturesBy, StateIs, ListIs, WaitsAre}
+use Rattle.b67_list.proofs.Numbered.{numbered_set}
+use Rattle.b67_list.proofs.Truths.{true_false}
+use Rattle.b67_scenes.proofs.Prelude.{slice_set, numbered, set_numbered, IsListed, PProgram, scopes_of, list_in, Process, State, able, lives, World, process_at, or_no_process, with_process, Place, Code, waiters_at, list_of, Image, is_live, woken_number, AwaitsAt, ProcessState, Able, Texts, Core, HasCore, length_set_numbered, same_or_not, numbered_other, arrays_unchanged, events_unchanged, HasFacts, Layout, Living, Pictured, living, dead, PicturesBy, StateIs, ListIs, WaitsAre}
 use Rattle.algol_meaning.specs.World.{set_able, set_all_able}
 use Rattle.b67_table.specs.Image.{with_states}
 use Rattle.b67_table.specs.Writes.{able_again}

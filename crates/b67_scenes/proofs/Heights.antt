@@ -1,6 +1,7 @@
 -- No two instances that stand have their frames at one place, and none has its own where an evaluation has one.
 use Rattle.std.proofs.Common.{◌≡◌, ◌⊎◌, inl, inr, sym, ap, ◌∙◌, subst, ℕ, ◌+◌, ◌≤◌, List, [], ◌∷◌, length, Some, true, false, arith}
-use Rattle.b67_scenes.proofs.Prelude.{numbered, PProgram, scopes_of, is_evaluation, Instance, Process, Part, World, IsOk, IsWholeInstance, IsOwn, Word, Place, Code, place, Image, Yields, Texts, some_same, true_false, IsElsewhere, Lies, lies_around, lies_low, owned_frame, Layout, Frame, Around, PicturesBy}
+use Rattle.b67_list.proofs.Truths.{true_false}
+use Rattle.b67_scenes.proofs.Prelude.{numbered, PProgram, scopes_of, is_evaluation, Instance, Process, Part, World, IsOk, IsWholeInstance, IsOwn, Word, Place, Code, place, Image, Yields, Texts, some_same, IsElsewhere, Lies, lies_around, lies_low, owned_frame, Layout, Frame, Around, PicturesBy}
 use Rattle.b67_scenes.proofs.Worlds.{held_of}
 
 module _ (tree : PProgram) (code : Code) (texts : Texts) (w : World) (lay : Layout) (p : ℕ) where

@@ -2,7 +2,7 @@
 use Rattle.std.proofs.Common.{◌≡◌, ap, ◌∙◌, ℕ, ◌+◌, List, ◌∷◌, length, Some, Ok, arith}
 use Rattle.b67_scenes.proofs.Prelude.{block_numbered, PProgram, Scopes, scopes_of, use_of, Kind, Named, Reference, instance_at, ancestor, BlockIsSeen, Couple, Operator, Placed, Code, word_at, place, display_at, operator_at, Found, found_from, simple_cells, IsVariable, Has, Texts, Slot, Core, Known, CoreAt, IsParent, IsInReach}
 use Rattle.b67_segment.specs.Fetching.{fetched}
-use Rattle.b67_segment.proofs.Among.{fetched-spelled}
+use Rattle.b67_segment.proofs.Among.{fetched_spelled}
 use Rattle.b67_scenes.proofs.Led.{named_parent, named_reached, named_shown}
 use Rattle.b67_scenes.proofs.Scene.{Actor}
 use Rattle.b67_scenes.proofs.Staying.{names_in}
@@ -14,7 +14,7 @@ pub operator_there : (sc : Scopes) (known : List Known) (code : Code) (ps : List
 operator_there sc known code ps level pc slots core op next at has =
     ap (λ (n : ℕ). fetched code (record { segment = core.registers.segment; place = n }) core.registers.ll) at.place_is
     ∙ ap (λ (l : ℕ). fetched code (record { segment = core.registers.segment; place = pc }) l) at.level_is
-    ∙ fetched-spelled code core.registers.segment at.there at.spells has
+    ∙ fetched_spelled code core.registers.segment at.there at.spells has
 
 module _ (tree : PProgram) (code : Code) (texts : Texts) (actor : Actor tree code texts) where
   open actor use {w, lay, img, part, outer, core}

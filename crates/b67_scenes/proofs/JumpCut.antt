@@ -1,6 +1,8 @@
 -- The way of GO TO down a process's stack: from the innermost part to that of the label's instance, past the frames that are left.
 use Rattle.std.proofs.Common.{◌≡◌, inl, inr, refl, sym, ap, ◌∙◌, subst, ℕ, zero, suc, ◌+◌, ◌<◌, ◌≤◌, List, [], ◌∷◌, ◌++◌, length, take, drop, Some, None, Bool, true, false, Ok, arith, append_assoc, append-nil, length-append}
-use Rattle.b67_scenes.proofs.Prelude.{nat_tests, if◌then◌else◌, ◌==◌, reverse, slice_get, map, numbered, PProgram, Scopes, scopes_of, is_evaluation, own_instances, leave, NamedCell, Instance, Part, Process, World, instance_at, cell_in, by_cell, IsOwn, IsStanding, stack_of, Word, Place, Code, Stacks, stack_limit, place, left_to, Passed, Image, Look, ◌>->◌, look_seen, Below, Yields, Texts, some_same, true_false, parts_weight, same_is, numbered_other, IsSameBut, FramesClose, KeepsArrays, Remain, denotes_lasts, Begins_with, owned_frame, Layout, ArraysAre, IsInReach, home_of, Framed, Frame, Waits, Around, Owned, Shape, of_own, of_lent}
+use Rattle.b67_list.proofs.Numbers.{ltb_not_less, number_told}
+use Rattle.b67_list.proofs.Truths.{true_false}
+use Rattle.b67_scenes.proofs.Prelude.{nat_tests, if◌then◌else◌, ◌==◌, reverse, slice_get, map, numbered, PProgram, Scopes, scopes_of, is_evaluation, own_instances, leave, NamedCell, Instance, Part, Process, World, instance_at, cell_in, by_cell, IsOwn, IsStanding, stack_of, Word, Place, Code, Stacks, stack_limit, place, left_to, Passed, Image, Look, ◌>->◌, look_seen, Below, Yields, Texts, some_same, parts_weight, numbered_other, IsSameBut, FramesClose, KeepsArrays, Remain, denotes_lasts, Begins_with, owned_frame, Layout, ArraysAre, IsInReach, home_of, Framed, Frame, Waits, Around, Owned, Shape, of_own, of_lent}
 use Rattle.std.specs.Prelude.{nat_eq, nat_lt}
 use Rattle.algol_meaning.specs.Instances.{is_part_of, cut_at}
 use Rattle.algol_standing.proofs.Jumping.{target_is}
@@ -8,7 +10,6 @@ use Rattle.b67_table.specs.Chains.{chain_broken}
 use Rattle.b67_table.specs.GoingTo.{Passing, passing_after, passing}
 use Rattle.b67_table.specs.Look.{found}
 use Rattle.b67_letters.proofs.Looks.{then_seen}
-use Rattle.b67_rows.proofs.TurnRow.{not_below}
 use Rattle.b67_frames.specs.Lent.{Lent}
 use Rattle.b67_frames.proofs.Closing.{IsClosed}
 use Rattle.b67_frames.proofs.JumpClosing.{after_one, cells_there, AreClosed, none_closed, own_closed, lent_closed}
@@ -38,7 +39,7 @@ NoFrame is (f ∷ fs) = (is f.frame ≡ false) × NoFrame is fs
 part_outer : (part : Part) (outer : List Part) (i : ℕ) → is_part_of part i ≡ false → IsOwn (part ∷ outer) i → IsOwn outer i
 part_outer part outer i e (inr later) = later
 part_outer part outer i e (inl own) =
-    true_false (ap (λ (t : Bool). if t then false else part.instance == i) own.0 ∙ same_is part.instance i own.1) e
+    true_false (ap (λ (t : Bool). if t then false else part.instance == i) own.0 ∙ number_told part.instance i own.1) e
 
 -- ---- worlds between
 
@@ -249,7 +250,7 @@ module _ (tree : PProgram) (code : Code) (texts : Texts) (closing : FramesClose)
           ap
           (λ (t : Bool). look_seen stacks (if t then found (record { frames = []; cells = length f.cells }) else (if nat_lt (length f.lower) target_at then chain_broken else left_to (place p (length f.lower)) >-> go_on steps)))
           (eq_not (length f.lower) target_at below_it)
-          ∙ ap (λ (t : Bool). look_seen stacks (if t then chain_broken else left_to (place p (length f.lower)) >-> go_on steps)) (not_below (length f.lower) target_at (omega (arith, below_it)))
+          ∙ ap (λ (t : Bool). look_seen stacks (if t then chain_broken else left_to (place p (length f.lower)) >-> go_on steps)) (ltb_not_less (length f.lower) target_at (omega (arith, below_it)))
           ∙ then_seen stacks (left_to (place p (length f.lower))) (down.below_it tree code texts w lay p stacks inner) (go_on steps)
           (leads_down tree code texts w lay p stacks inner)
           ∙ ap (λ (c : ℕ). look_seen stacks (passing steps p target_at (record { frame = length u.frame.lower; cells = c }) >-> on_with)) u.cells_are

@@ -1,6 +1,9 @@
 -- The world in which GO TO has left instances of a process: all else of them is the same, and so are all others.
 use Rattle.std.proofs.Common.{◌≡◌, ◌≢◌, ◌⊎◌, inl, inr, refl, sym, ap, ◌∙◌, subst, ℕ, zero, suc, ◌<◌, ◌≤◌, List, [], ◌∷◌, length, Option, Some, None, true, false, arith}
-use Rattle.b67_scenes.proofs.Prelude.{slice_get, slice_set, numbered, set_numbered, Scopes, leave, Instance, Process, World, no_process, instance_at, or_no_instance, ancestor, with_instance, with_process, Place, place, length_set_numbered, some_same, none_some, true_false, same_or_not, numbered_set, numbered_other, IsSameBut, StayBelow, StandOn, Layout}
+use Rattle.b67_list.proofs.Numbered.{numbered_set}
+use Rattle.b67_list.proofs.Numbers.{none_some}
+use Rattle.b67_list.proofs.Truths.{true_false}
+use Rattle.b67_scenes.proofs.Prelude.{slice_get, slice_set, numbered, set_numbered, Scopes, leave, Instance, Process, World, no_process, instance_at, or_no_instance, ancestor, with_instance, with_process, Place, place, length_set_numbered, some_same, same_or_not, numbered_other, IsSameBut, StayBelow, StandOn, Layout}
 use Rattle.b67_rows.proofs.Parting.{same_but}
 use Rattle.b67_scenes.proofs.Kept.{LeavesAlone, AreAlike}
 use Rattle.b67_scenes.proofs.Tasks.{EventsStay, events_left}

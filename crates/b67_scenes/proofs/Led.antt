@@ -1,6 +1,8 @@
 -- Where a process that stands at its action is led by names and by cells: the frames that its display names, and what it may look at there.
 use Rattle.std.proofs.Common.{◌≡◌, inl, refl, sym, ap, ◌∙◌, subst, ℕ, zero, suc, ◌+◌, ◌-◌, ◌<◌, ◌≤◌, Bool, true, false, List, [], ◌∷◌, length, Some, None, arith}
-use Rattle.b67_scenes.proofs.Prelude.{slice_get, numbered, block_numbered, around, PProgram, Scopes, scopes_of, use_of, Named, is_evaluation, Reference, Cell, reference, NamedCell, Instance, instance_at, or_no_instance, ancestor, BlockIsSeen, IsSeenAround, InRest, has_simple, home_forth, top_stands, IsLow, IsInSkeleton, IsStanding, IsOwn, IsWholeInstance, IsAmongParts, IsNoBlock, referred_in_cells, newest_own, OUTER_LEVEL, Code, get_within, place, display_at, found_from, simple_cells, AreNested, Texts, some_same, none_some, length_around, HasFacts, facts_of, IsParent, named_from, IsInReach, ArePlaced}
+use Rattle.b67_list.proofs.Lists.{get_within}
+use Rattle.b67_list.proofs.Numbers.{none_some}
+use Rattle.b67_scenes.proofs.Prelude.{slice_get, numbered, block_numbered, around, PProgram, Scopes, scopes_of, use_of, Named, is_evaluation, Reference, Cell, reference, NamedCell, Instance, instance_at, or_no_instance, ancestor, BlockIsSeen, IsSeenAround, InRest, has_simple, home_forth, top_stands, IsLow, IsInSkeleton, IsStanding, IsOwn, IsWholeInstance, IsAmongParts, IsNoBlock, referred_in_cells, newest_own, OUTER_LEVEL, Code, place, display_at, found_from, simple_cells, AreNested, Texts, some_same, length_around, HasFacts, facts_of, IsParent, named_from, IsInReach, ArePlaced}
 use Rattle.algol_meaning.specs.Critical.{referred_in}
 use Rattle.algol_standing.specs.Worlds.{parent_in, home_of}
 use Rattle.algol_standing.specs.Lows.{CellLow, CellsLow}

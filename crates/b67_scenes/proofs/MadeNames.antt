@@ -1,6 +1,8 @@
 -- The name of a cell that actions make is none of a simple cell.
 use Rattle.std.proofs.Common.{◌≡◌, refl, ap, ◌∙◌, ℕ, ◌+◌, List, [], ◌∷◌, ◌++◌, Option, Some, None, Bool, true, false}
-use Rattle.b67_scenes.proofs.Prelude.{if◌then◌else◌, same_name, Cell, simple, array, event, reference, NamedCell, cell_in, Word, Simple, Wanted, Found, found_from, none_some, true_false, CellIs, CellsAre}
+use Rattle.b67_list.proofs.Numbers.{none_some}
+use Rattle.b67_list.proofs.Truths.{true_false}
+use Rattle.b67_scenes.proofs.Prelude.{if◌then◌else◌, same_name, Cell, simple, array, event, reference, NamedCell, cell_in, Word, Simple, Wanted, Found, found_from, CellIs, CellsAre}
 use Rattle.algol_meaning.specs.Value as meant
 use Rattle.b67_templates.specs.Cells as wants
 

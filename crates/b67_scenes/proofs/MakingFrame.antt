@@ -1,6 +1,8 @@
 -- The frame of a part that makes what its block declares: after its cells lie descriptors of arrays, and words of events.
 use Rattle.std.proofs.Common.{◌≡◌, ◌≢◌, refl, sym, ap, ◌∙◌, subst, ℕ, ◌+◌, ◌*◌, ◌<◌, ◌≤◌, List, ◌∷◌, ◌++◌, length, Option, Some, Bool, false, arith, append_assoc, length-append}
-use Rattle.b67_scenes.proofs.Prelude.{if◌then◌else◌, slice_get, numbered, Block, block_numbered, level_of, PProgram, Scopes, scopes_of, resume, is_evaluation, NamedCell, Instance, Process, Part, World, instance_at, or_no_instance, with_process, cell_in, Made, all_to_make, KeepsToText, RestsKeepToTheirText, AllIsMadeInOrder, IsStanding, Word, Place, Code, place, most_cells, Simple, simple_cells, made_of, yields_of, AreNested, IsText, Texts, control_words, some_same, tokens_around, part_weight, weight, numbered_set, get-front, rows_but, rows_other, made_many, block_few, as_many_controls, controls_many, StayBelow, weight_stays, around_stays, owned_frame, frame_gives, runs_at, as_many_values, StandOn, home_on, Allotted, Layout, AreMade, Denotes, Refers, block_controls, controls_count, IsChained, Framed, Frame, Around, Owned, of_own}
+use Rattle.b67_list.proofs.Lists.{get_front}
+use Rattle.b67_list.proofs.Numbered.{numbered_set}
+use Rattle.b67_scenes.proofs.Prelude.{if◌then◌else◌, slice_get, numbered, Block, block_numbered, level_of, PProgram, Scopes, scopes_of, resume, is_evaluation, NamedCell, Instance, Process, Part, World, instance_at, or_no_instance, with_process, cell_in, Made, all_to_make, KeepsToText, RestsKeepToTheirText, AllIsMadeInOrder, IsStanding, Word, Place, Code, place, most_cells, Simple, simple_cells, made_of, yields_of, AreNested, IsText, Texts, control_words, some_same, tokens_around, part_weight, weight, rows_but, rows_other, made_many, block_few, as_many_controls, controls_many, StayBelow, weight_stays, around_stays, owned_frame, frame_gives, runs_at, as_many_values, StandOn, home_on, Allotted, Layout, AreMade, Denotes, Refers, block_controls, controls_count, IsChained, Framed, Frame, Around, Owned, of_own}
 use Rattle.algol_meaning.specs.Rest.{done}
 use Rattle.algol_paths.specs.Arrays.{all_left_to_make}
 use Rattle.b67_table.specs.Limits.{most_arrays}
@@ -161,9 +163,6 @@ module _ (tree : PProgram) (code : Code) (texts : Texts) (nested : AreNested (sc
             subst (λ (rows : List Allotted). AreMade (framed.declared ++ ms) (framed.arrays ++ new) rows (framed.descriptors ++ descriptors)) (sym rows_here)
             (made_both framed.declared framed.arrays (lay.rows i) framed.descriptors ms new allotted descriptors framed.made added)
 
-        pub descriptors_many : length descriptors ≡ length ms
-        descriptors_many = (made_many ms new allotted descriptors added).words_many
-
         new_many : length new ≡ length ms
         new_many = (made_many ms new allotted descriptors added).cells_many
 
@@ -175,7 +174,7 @@ module _ (tree : PProgram) (code : Code) (texts : Texts) (nested : AreNested (sc
             (c : NamedCell) × (word : Word) × (slice_get framed.simple k ≡ Some c) × (slice_get framed.values k ≡ Some word) × Denotes sc w' lay' (IsStanding w') t.wanted c.cell word
         formals_now k t there refers =
             let g = framed.formals k t there refers in
-            let among : slice_get cells' k ≡ Some g.0 = get-front x.cells new k g.0 (ap (λ (cs : List NamedCell). slice_get cs k) framed.has ∙ get-front framed.simple framed.arrays k g.0 g.2) in
+            let among : slice_get cells' k ≡ Some g.0 = get_front x.cells new k g.0 (ap (λ (cs : List NamedCell). slice_get cs k) framed.has ∙ get_front framed.simple framed.arrays k g.0 g.2) in
             (g.0, g.1, g.2, g.3, denotes_on sc w w' lay lay' on t.wanted g.0.cell g.1 (cell_refers w' on.after i later (changed_at w i x framed.is cells') framed.stands k g.0 among) g.4)
 
         abbrev framed' : Framed sc w' lay' p i outer (length f.lower) f.mark f.control (f.cells ++ descriptors)

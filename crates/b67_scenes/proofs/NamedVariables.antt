@@ -1,6 +1,7 @@
 -- The word that leads to the cell of a variable is read as the place of that cell.
 use Rattle.std.proofs.Common.{◌≡◌, sym, ap, ◌∙◌, ℕ, ◌+◌, ◌<◌, ◌∷◌, length, Some, arith}
-use Rattle.b67_scenes.proofs.Prelude.{block_numbered, PProgram, Scopes, scopes_of, Kind, Reference, numbered_small, Word, Place, as_sirw, Code, get_within, place, cell_word, simple_cells, AreNested, Texts, some_same, as_many_values, LeadsToVariable, IsInReach}
+use Rattle.b67_list.proofs.Lists.{get_within}
+use Rattle.b67_scenes.proofs.Prelude.{block_numbered, PProgram, Scopes, scopes_of, Kind, Reference, numbered_small, Word, Place, as_sirw, Code, place, cell_word, simple_cells, AreNested, Texts, some_same, as_many_values, LeadsToVariable, IsInReach}
 use Rattle.b67_scenes.proofs.Finding.{Found, found_laid}
 use Rattle.b67_scenes.proofs.ArrayPlaces.{cell_read}
 use Rattle.b67_scenes.proofs.Scene.{Actor}

@@ -4,8 +4,8 @@ use Rattle.b67_scenes.proofs.Prelude.{if◌then◌else◌, slice_get, numbered, 
 use Rattle.algol_standing.specs.Skeleton.{Owned, this, further}
 use Rattle.algol_standing.proofs.Firsts.{below_in}
 use Rattle.algol_standing.proofs.Standing.{lives as stack_lives}
+use Rattle.algol_standing.proofs.Jumping.{own_both}
 use Rattle.b67_rows.proofs.CriticalRow.{LeadsDown, under, across, this_frame, lower_frame}
-use Rattle.b67_frames.proofs.ChoicePaths.{own_both}
 use Rattle.b67_scenes.proofs.Towers.{Tower, base, above, Under, parted, AreHigher, none_higher, laid_at, tower_owns, own_under, whose_frame, higher_next, Seat, seat_in, own_first}
 
 -- ---- the next instance below one, in a stack whose numbers go down

@@ -1,7 +1,9 @@
 -- The frames of each process that lives lie one on the other in an image, and the walk down the path of a process finds the frame of the first
 -- instance there that is referred to.
 use Rattle.std.proofs.Common.{◌≡◌, inl, refl, sym, ap, ◌∙◌, subst, ℕ, ◌+◌, ◌<◌, ◌≤◌, Bool, true, false, List, [], ◌∷◌, ◌++◌, length, Option, Some, arith, append_assoc}
-use Rattle.b67_scenes.proofs.Prelude.{if◌then◌else◌, slice_get, numbered, PProgram, Scopes, scopes_of, is_evaluation, own_instances, Instance, Process, Part, State, lives, World, instance_at, or_no_instance, stack_forth, IsOk, IsInSkeleton, FirstOf, newest_own, skeleton, stack_of, IsStanding, IsWholeInstance, Word, Place, Code, word_at, get_within as get_below, place, Image, critical_in, Texts, steps_stay_above, Above, some_same, true_false, IsAmongPlaces, FirstDown, get-front, get-seam, HasFacts, facts_of, begins_core, owned_frame, Layout, FrameStands, Around, Frames, CriticalIs, Living, Pictured, living, dead, PicturesBy, CoreReaches, ReachesFor}
+use Rattle.b67_list.proofs.Lists.{get_front, get_within as get_below}
+use Rattle.b67_list.proofs.Truths.{true_false}
+use Rattle.b67_scenes.proofs.Prelude.{if◌then◌else◌, slice_get, numbered, PProgram, Scopes, scopes_of, is_evaluation, own_instances, Instance, Process, Part, State, lives, World, instance_at, or_no_instance, stack_forth, IsOk, IsInSkeleton, FirstOf, newest_own, skeleton, stack_of, IsStanding, IsWholeInstance, Word, Place, Code, word_at, place, Image, critical_in, Texts, steps_stay_above, Above, some_same, IsAmongPlaces, FirstDown, get_seam, HasFacts, facts_of, begins_core, owned_frame, Layout, FrameStands, Around, Frames, CriticalIs, Living, Pictured, living, dead, PicturesBy, CoreReaches, ReachesFor}
 use Rattle.algol_standing.proofs.Left.{references_lie_on_paths}
 use Rattle.b67_rows.proofs.Begun.{numbered_few}
 use Rattle.b67_rows.proofs.Numbers.{get_within}
@@ -74,16 +76,16 @@ module _ (tree : PProgram) (code : Code) (texts : Texts) (w : World) (lay : Layo
     settled_there : CoreReaches sc w lay r part l.core l.settled → (n : ℕ) (x : Word) → n < high + 2 → slice_get l.settled.below n ≡ Some x → word_at img.stacks (place r n) ≡ Some x
     settled_there reach n x low e =
         let there : (v : Word) × (slice_get l.core.below n ≡ Some v) = get_within l.core.below n (omega (arith, low, two_low reach)) in
-        let same : there.0 ≡ x = some_same (sym (get-front l.core.below above.cells n there.0 there.1) ∙ ap (λ (ws : List Word). slice_get ws n) (sym above.below) ∙ e) in
+        let same : there.0 ≡ x = some_same (sym (get_front l.core.below above.cells n there.0 there.1) ∙ ap (λ (ws : List Word). slice_get ws n) (sym above.below) ∙ e) in
         begins_core img r l.core l.has n x (there.1 ∙ ap (λ (v : Word). Some v) same)
 
     pub frames_tower : CoreReaches sc w lay r part l.core l.settled → Tower img.stacks lay r y.todo (length s.frame.lower)
     frames_tower reach =
         subst (λ (parts : List Part). Tower img.stacks lay r parts high) (sym todo)
         (tower_of tree code texts w lay r img.stacks part outer l.settled.below s.frame a (last_owns r y is [] (part ∷ outer) todo)
-        (settled_there reach high s.frame.mark (omega arith) (ap (λ (ws : List Word). slice_get ws high) s.frame.words_are ∙ get-seam s.frame.lower s.frame.mark (s.frame.control ∷ s.frame.cells) high refl))
+        (settled_there reach high s.frame.mark (omega arith) (ap (λ (ws : List Word). slice_get ws high) s.frame.words_are ∙ get_seam s.frame.lower s.frame.mark (s.frame.control ∷ s.frame.cells) high refl))
         (λ n x e. settled_there reach n x (let low = get_below s.frame.lower n x e in omega (arith, low))
-        (ap (λ (ws : List Word). slice_get ws n) s.frame.words_are ∙ get-front s.frame.lower (s.frame.mark ∷ s.frame.control ∷ s.frame.cells) n x e))
+        (ap (λ (ws : List Word). slice_get ws n) s.frame.words_are ∙ get_front s.frame.lower (s.frame.mark ∷ s.frame.control ∷ s.frame.cells) n x e))
         (omega (arith, two_low reach, l.small)))
 
   -- those of each that lives

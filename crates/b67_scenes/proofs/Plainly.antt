@@ -1,6 +1,8 @@
 -- A plain operator leaves an image of the same world.
 use Rattle.std.proofs.Common.{◌≡◌, ◌≢◌, ◌⊎◌, inl, inr, refl, sym, ap, ◌∙◌, subst, ℕ, ◌<◌, ◌≤◌, List, [], ◌∷◌, length, length-append, Option, Some, None, Bool, true, false, arith}
-use Rattle.b67_scenes.proofs.Prelude.{if◌then◌else◌, numbered, PProgram, scopes_of, Part, Process, lives, World, Place, place_at, Code, stack_at, stack_limit, Effect, interrupts, Image, is_live, plain, by_registers, stack_length, BadCode as bad_code, Texts, steps_stay_above, Core, HasCore, with_core, size, CoreSteps, Above, length_set_numbered, true_false, none_some, some_same, same_or_not, numbered_beyond, most_or_more, Layout, CriticalIs, TaskIs, Living, Pictured, living, dead, PicturesBy, ReachesFor, StateIs}
+use Rattle.b67_list.proofs.Numbers.{none_some}
+use Rattle.b67_list.proofs.Truths.{true_false}
+use Rattle.b67_scenes.proofs.Prelude.{if◌then◌else◌, numbered, PProgram, scopes_of, Part, Process, lives, World, Place, place_at, Code, stack_at, stack_limit, Effect, interrupts, Image, is_live, plain, by_registers, stack_length, BadCode as bad_code, Texts, steps_stay_above, Core, HasCore, with_core, size, CoreSteps, Above, length_set_numbered, some_same, same_or_not, numbered_beyond, most_or_more, Layout, CriticalIs, TaskIs, Living, Pictured, living, dead, PicturesBy, ReachesFor, StateIs}
 use Rattle.b67_table.specs.Outcome.{gives}
 use Rattle.b67_table.specs.Outcome as outcomes
 use Rattle.b67_table.specs.Table.{table, raw}

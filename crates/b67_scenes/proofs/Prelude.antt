@@ -37,7 +37,7 @@ pub use Rattle.algol_standing.specs.Skeleton.{FirstOf, Home, IsInSkeleton, NextI
 pub use Rattle.algol_standing.specs.Worlds.{IsAmongParts, IsNoBlock, IsOnPath, IsOwn, IsStanding, IsWholeInstance, newest_own, referred_in_cells, skeleton, stack_of}
 pub use Rattle.b67_word.specs.Word.{Word, as_whole}
 pub use Rattle.b67_word.specs.declared.Place.{Place}
-pub use Rattle.b67_control.proofs.ControlLaws.{as_mscw-mscw_word, as_pcw-pcw_word, as_rcw-rcw_word}
+pub use Rattle.b67_control.proofs.ControlLaws.{as_mscw_mscw_word, as_pcw_pcw_word, as_rcw_rcw_word}
 pub use Rattle.b67_control.specs.Control.{Fits_pcw, as_irw, as_mscw, as_pcw, as_rcw, as_sirw, event_word, pcw_word}
 pub use Rattle.b67_control.specs.Display.{place_at}
 pub use Rattle.b67_control.specs.declared.Descriptor.{Descriptor}
@@ -57,9 +57,9 @@ pub use Rattle.b67_segment.specs.declared.code.Code.{Code}
 pub use Rattle.b67_segment.specs.declared.code.Segment.{Segment}
 pub use Rattle.b67_store.specs.Store.{Stacks, stack_at, stack_limit, word_at, words_of, words_or}
 pub use Rattle.b67_events.proofs.EventLaws.{one_event}
-pub use Rattle.b67_events.proofs.Listed.{same_place-self}
+pub use Rattle.b67_events.proofs.Listed.{same_place_self}
 pub use Rattle.b67_events.specs.Events.{Event, closed_from, event_at, is_from, list_of, same_place, waiters_at}
-pub use Rattle.b67_table.proofs.Lists.{get_within, numbered_within}
+pub use Rattle.b67_table.proofs.Lists.{numbered_within}
 pub use Rattle.b67_table.specs.Beginning.{intrinsic_pcw, system_stack}
 pub use Rattle.b67_table.specs.Chains.{frame_below, left_to, linked, place}
 pub use Rattle.b67_table.specs.Effect.{Effect, gives, interrupts}
@@ -95,23 +95,22 @@ pub use Rattle.b67_cores.specs.Cores.{Core, CoreSteps, HasCore, IsCore, size, wi
 pub use Rattle.b67_cores.specs.Slots.{Known, SlotsAre, ValueIs, newest}
 pub use Rattle.b67_cores.specs.Stretches.{Above, BlocksBegin, CoreAt, CoreBegins, FragmentsArePerformed, control_words}
 pub use Rattle.b67_faithful.proofs.Choices.{length_set_numbered}
-pub use Rattle.b67_faithful.proofs.Contradictions.{none_some, some_same, true_false}
+pub use Rattle.b67_faithful.proofs.Contradictions.{some_same}
 pub use Rattle.b67_faithful.specs.Faithful.{IsShortSegment}
 pub use Rattle.b67_faithful.specs.Weight.{part_weight, parts_weight, tokens_around, weight}
 pub use Rattle.b67_rows.proofs.AskedElements.{ArraySeen, IsAsked}
 pub use Rattle.b67_rows.proofs.CriticalRow.{FirstDown, IsAmongPlaces}
-pub use Rattle.b67_rows.proofs.Displays.{Links, entered_to, linked_seen, same_is, shown, shown_top}
+pub use Rattle.b67_rows.proofs.Displays.{Links, entered_to, linked_seen, shown, shown_top}
 pub use Rattle.b67_rows.proofs.EntryRow.{lower_of}
 pub use Rattle.b67_rows.proofs.GivenWords.{AreFit, Taken, taken_words}
 pub use Rattle.b67_rows.proofs.Growing.{next_within}
-pub use Rattle.b67_rows.proofs.Marks.{newest_low}
-pub use Rattle.b67_rows.proofs.Numbers.{most_or_more, numbered_beyond, numbered_other, numbered_set, same_or_not}
+pub use Rattle.b67_rows.proofs.Numbers.{most_or_more, numbered_beyond, numbered_other, same_or_not}
 pub use Rattle.b67_rows.proofs.Parents.{length_around}
 pub use Rattle.b67_rows.proofs.Parting.{IsSameBut}
 pub use Rattle.b67_rows.proofs.Rows.{words_are}
 pub use Rattle.b67_rows.proofs.Segmented.{segment_low}
 pub use Rattle.b67_rows.proofs.Slotted.{Top, top_slot}
-pub use Rattle.b67_rows.proofs.StackWords.{get-behind, get-front, get-seam, length-stack}
+pub use Rattle.b67_rows.proofs.StackWords.{get_behind, get_seam, length_stack}
 pub use Rattle.b67_rows.proofs.Texted.{block_keeps, block_makes}
 pub use Rattle.b67_rows.proofs.Touching.{FrameAt, IsNearStack, Near, NearCell, NearFrame, below_floor, own_stack, system_frame}
 pub use Rattle.b67_rows.proofs.TouchingOperators.{StandsNear}

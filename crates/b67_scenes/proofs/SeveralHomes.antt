@@ -8,7 +8,7 @@ use Rattle.b67_templates.specs.Cells.{AreEvents}
 use Rattle.b67_standing.specs.Stepping.{reference}
 use Rattle.b67_standing.specs.Standing.{references}
 use Rattle.b67_table.specs.PrivateRows as rows
-use Rattle.b67_faithful.proofs.Sources.{reverse-cons}
+use Rattle.b67_faithful.proofs.Sources.{reverse_cons}
 use Rattle.b67_rows.proofs.AskedElements.{IsNamed}
 use Rattle.b67_scenes.proofs.Calling.{Lying}
 use Rattle.b67_scenes.proofs.EventHomes.{IsNearWay, cell_there, EventHome, event_home, has_there}
@@ -50,7 +50,7 @@ module _ (sc : Scopes) (known : List Known) (level home base : ℕ) where
           mark_is = g.lying.mark_is;
           many = omega (arith, g.lying.many, length-append g.lying.arguments (t.word ∷ []));
         };
-        words_are = ap (λ (ws : List Word). ws ++ t.word ∷ []) g.words_are ∙ ap (λ (x : Word). reverse (map rows.reference cs) ++ x ∷ []) t.slot_is ∙ sym (reverse-cons (rows.reference c) (map rows.reference cs));
+        words_are = ap (λ (ws : List Word). ws ++ t.word ∷ []) g.words_are ∙ ap (λ (x : Word). reverse (map rows.reference cs) ++ x ∷ []) t.slot_is ∙ sym (reverse_cons (rows.reference c) (map rows.reference cs));
       }
 
 -- ---- the cells

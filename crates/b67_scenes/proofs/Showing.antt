@@ -1,6 +1,7 @@
 -- An image that pictures a world shows it, and its stacks are within their weights.
 use Rattle.std.proofs.Common.{◌≡◌, refl, sym, ap, ◌∙◌, subst, ℕ, suc, ◌+◌, ◌≤◌, List, [], ◌∷◌, length, Option, Some, None, Bool, true, false, arith}
-use Rattle.b67_scenes.proofs.Prelude.{if◌then◌else◌, ◌&&◌, ◌||◌, not, slice_get, numbered, PProgram, Scopes, scopes_of, Process, State, able, waits_for, waits_any, procures, ended, lives, World, WorldFault, process_at, or_no_process, is_able as meaning_able, Registers, Code, Effect, interrupts, Image, is_live, limited, limit, by_registers, stack_length, BadCode as bad_code, ProcessState, Able, WaitsFor, WaitsAny, Procures, Ended, Texts, true_false, some_same, weight, numbered_beyond, Layout, failure_of, Living, Pictured, living, dead, PicturesBy, StateIs}
+use Rattle.b67_list.proofs.Truths.{true_false}
+use Rattle.b67_scenes.proofs.Prelude.{if◌then◌else◌, ◌&&◌, ◌||◌, not, slice_get, numbered, PProgram, Scopes, scopes_of, Process, State, able, waits_for, waits_any, procures, ended, lives, World, WorldFault, process_at, or_no_process, is_able as meaning_able, Registers, Code, Effect, interrupts, Image, is_live, limited, limit, by_registers, stack_length, BadCode as bad_code, ProcessState, Able, WaitsFor, WaitsAny, Procures, Ended, Texts, some_same, weight, numbered_beyond, Layout, failure_of, Living, Pictured, living, dead, PicturesBy, StateIs}
 use Rattle.algol_meaning.specs.Run.{end_of}
 use Rattle.algol_meaning.specs.Run as meaning
 use Rattle.b67_table.specs.Image.{Failure}

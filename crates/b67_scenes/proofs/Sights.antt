@@ -1,7 +1,7 @@
 -- How much a process that stands at its action may look at: of each instance on the path from its newest, all cells but those that another process
 -- is making, and of these the ones that are there.
 use Rattle.std.proofs.Common.{◌≡◌, ◌≢◌, ◌⊎◌, inl, inr, refl, sym, ap, ◌∙◌, subst, ℕ, suc, ◌+◌, ◌<◌, ◌≤◌, List, [], ◌∷◌, length, Some, arith, append-nil}
-use Rattle.b67_scenes.proofs.Prelude.{slice_get, numbered, block_numbered, PProgram, Scopes, scopes_of, own_instances, Instance, Process, Part, instance_at, stack_forth, top_stands, IsLow, IsInSkeleton, IsStanding, IsOnPath, IsOwn, stack_of, newest_own, IsWholeInstance, Word, Code, word_at, place, made_base, Texts, some_same, same_or_not, IsNearStack, lies_low, lies_in, IsInReach}
+use Rattle.b67_scenes.proofs.Prelude.{slice_get, numbered, block_numbered, PProgram, scopes_of, own_instances, Instance, Process, Part, instance_at, stack_forth, top_stands, IsLow, IsInSkeleton, IsStanding, IsOnPath, IsOwn, stack_of, newest_own, IsWholeInstance, Word, Code, word_at, place, made_base, Texts, some_same, same_or_not, IsNearStack, lies_low, lies_in, IsInReach}
 use Rattle.algol_standing.proofs.Seen.{top_inside}
 use Rattle.b67_scenes.proofs.Finding.{Shows, wholly, but_made, two_words, Found, found_process, word_sees, find}
 use Rattle.b67_scenes.proofs.Scene.{Actor}
@@ -12,9 +12,6 @@ use Rattle.b67_scenes.proofs.Unseen.{newest_alone}
 
 module _ (tree : PProgram) (code : Code) (texts : Texts) (actor : Actor tree code texts) where
   open actor use {w, lay, img, p, q, part, outer, core, s}
-
-  abbrev sc : Scopes
-  sc = scopes_of tree
 
   abbrev FoundThere : ℕ → Type 0
   FoundThere i = Found tree code texts w lay img i
@@ -121,9 +118,6 @@ module _ (tree : PProgram) (code : Code) (texts : Texts) (actor : Actor tree cod
   module _ (i : ℕ) (h : Seen i) where
     abbrev high : ℕ
     high = length h.found.lies.frame.lower
-
-    abbrev base : ℕ
-    base = made_base sc (block_numbered sc.blocks ((instance_at w i).block))
 
     -- a cell that is not made lies below the floor
     pub cell_below : (n : ℕ) → n < length h.found.lies.frame.cells → 2 + n < made_base (scopes_of tree) (block_numbered (scopes_of tree).blocks ((instance_at w i).block)) →

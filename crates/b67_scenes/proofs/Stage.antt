@@ -1,6 +1,7 @@
 -- What all actions share: the choice of the world, the limit, and the picture after an action.
 use Rattle.std.proofs.Common.{◌≡◌, ◌≢◌, ◌⊎◌, inl, inr, refl, sym, ap, ◌∙◌, subst, ℕ, suc, ◌<◌, ◌≤◌, List, ◌∷◌, length, Option, Some, None, Bool, false, arith, true}
-use Rattle.b67_scenes.proofs.Prelude.{nat_tests, if◌then◌else◌, nat_le, numbered, set_numbered, IsListed, PProgram, Scopes, scopes_of, ask, list_in, Part, Process, lives, WorldFault, World, process_at, or_no_process, IsOk, IsWholeInstance, Place, Registers, Code, stack_at, stack_limit, waiters_at, Image, is_live, limited, limit, stack_length, ProcessState, Texts, Core, HasCore, length_set_numbered, some_same, weight, parts_weight, same_or_not, numbered_set, numbered_other, arrays_unchanged, events_unchanged, HasFacts, facts_of, keeps_same, Layout, ArraysAre, EventsAre, failure_of, Living, Pictured, living, PicturesBy, StateIs, WaitsAre}
+use Rattle.b67_list.proofs.Numbered.{numbered_set}
+use Rattle.b67_scenes.proofs.Prelude.{nat_tests, if◌then◌else◌, nat_le, numbered, set_numbered, IsListed, PProgram, Scopes, scopes_of, ask, list_in, Part, Process, lives, WorldFault, World, process_at, or_no_process, IsOk, IsWholeInstance, Place, Registers, Code, stack_at, stack_limit, waiters_at, Image, is_live, limited, limit, stack_length, ProcessState, Texts, Core, HasCore, length_set_numbered, some_same, weight, parts_weight, same_or_not, numbered_other, arrays_unchanged, events_unchanged, HasFacts, facts_of, keeps_same, Layout, ArraysAre, EventsAre, failure_of, Living, Pictured, living, PicturesBy, StateIs, WaitsAre}
 use Rattle.b67_num.specs.declared.FaultKind.{FaultKind}
 use Rattle.algol_meaning.specs.Choice.{choice, choice_in, choice_of}
 use Rattle.b67_table.specs.Effect as effects

@@ -1,6 +1,6 @@
 -- The call of START: what lies above the floor of the frame.
 use Rattle.std.proofs.Common.{◌≡◌, refl, sym, ap, ◌∙◌, subst, ℕ, ◌+◌, ◌<◌, ◌≤◌, ◌^◌, List, [], ◌∷◌, ◌++◌, length, Option, Some, None, arith, append_assoc, length-append}
-use Rattle.b67_scenes.proofs.Prelude.{reverse-append, reverse, block_numbered, level_of, PProgram, Scopes, scopes_of, Named, Given, segment_of, Word, Place, as_pcw-pcw_word, Fits_pcw, as_irw, pcw_word, Pcw, Code, word_at, place, gives, most_cells, display_at, frame, Context, code_at, Texts, given_slots, Slot, intrinsic, mark, newest, SlotsAre, FirstDown, Links, AreFit, Taken, taken_words, Top, top_slot, reference_read, pcw_refers_nothing}
+use Rattle.b67_scenes.proofs.Prelude.{reverse-append, reverse, block_numbered, level_of, PProgram, Scopes, scopes_of, Named, Given, segment_of, Word, Place, as_pcw_pcw_word, Fits_pcw, as_irw, pcw_word, Pcw, Code, word_at, place, gives, most_cells, display_at, frame, Context, code_at, Texts, given_slots, Slot, intrinsic, mark, newest, SlotsAre, FirstDown, Links, AreFit, Taken, taken_words, Top, top_slot, reference_read, pcw_refers_nothing}
 use Rattle.std.proofs.lemmas.List.{length-reverse}
 use Rattle.b67_ops.specs.declared.intrinsic.Intrinsic.TheVariants.{Start}
 use Rattle.b67_table.specs.declared.Cell.{Cell}
@@ -117,7 +117,7 @@ module _ (tree : PProgram) (code : Code) (texts : Texts) (actor : Actor tree cod
           entry = pcw_word started_code;
           lies = e.lies;
           no_sirw = pcw_refers_nothing started_code;
-          reads_entry = as_pcw-pcw_word started_code e.code_fits;
+          reads_entry = as_pcw_pcw_word started_code e.code_fits;
           no_intrinsic = refl;
           has_task = e.has_task;
           few = omega (arith, e.few, given.many, length-reverse given.arguments);

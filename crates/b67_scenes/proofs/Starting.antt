@@ -1,6 +1,8 @@
 -- The first image pictures the first world.
 use Rattle.std.proofs.Common.{◌≡◌, inl, refl, sym, ap, ◌∙◌, subst, ℕ, zero, suc, ◌+◌, ◌-◌, ◌*◌, ◌<◌, ◌≤◌, List, [], ◌∷◌, ◌++◌, length, Some, None, true, false, arith, length-append, append-nil}
-use Rattle.b67_scenes.proofs.Prelude.{length-map, map, replicate, not, if◌then◌else◌, slice_get, numbered, EventState, Block, block_numbered, number_at, around, level_of, PProgram, Scopes, scopes_of, Parameter, same_name, list_in, fresh_cells, items_of, settle_items, ArrayCell, event, Instance, Part, Process, World, able, process_at, DeclaredArray, procedures_before, segment_of, IsOk, IsStanding, IsWholeInstance, Word, Place, as_mscw-mscw_word, as_rcw-rcw_word, pcw_word, place_at, Pcw, Rcw, Registers, OUTER_LEVEL, Placed, Spells, Code, Segment, list_of, get_within, place, woken_number, base_control, Simple, parameter_cells, simple_cells, zero_cells, actuals_of, made_of, yields_of, AreTold, AreNested, Texts, context_of, ComesTo, Core, IsCore, HasCore, CoreAt, control_words, CoreBegins, BlocksBegin, some_same, none_some, tokens_around, weight, block_keeps, block_makes, block_few, routines_long, controls_many, facts_of, LeadAll, lead_there, fresh_are, fresh_lead, simple_many, zero_word, cells_length, Allotted, Layout, HasArray, ArraysAre, HasEvent, EventsAre, block_controls, controls_count, most_around, CellsAre, IsChained, Framed, of_own, Pictured, living, none_yet, ListIs}
+use Rattle.b67_list.proofs.Lists.{get_within}
+use Rattle.b67_list.proofs.Numbers.{none_some}
+use Rattle.b67_scenes.proofs.Prelude.{length-map, map, replicate, not, if◌then◌else◌, slice_get, numbered, EventState, Block, block_numbered, number_at, around, level_of, PProgram, Scopes, scopes_of, Parameter, same_name, list_in, fresh_cells, items_of, settle_items, ArrayCell, event, Instance, Part, Process, World, able, process_at, DeclaredArray, procedures_before, segment_of, IsOk, IsStanding, IsWholeInstance, Word, Place, as_mscw_mscw_word, as_rcw_rcw_word, pcw_word, place_at, Pcw, Rcw, Registers, OUTER_LEVEL, Placed, Spells, Code, Segment, list_of, place, woken_number, base_control, Simple, parameter_cells, simple_cells, zero_cells, actuals_of, made_of, yields_of, AreTold, AreNested, Texts, context_of, ComesTo, Core, IsCore, HasCore, CoreAt, control_words, CoreBegins, BlocksBegin, some_same, tokens_around, weight, block_keeps, block_makes, block_few, routines_long, controls_many, facts_of, LeadAll, lead_there, fresh_are, fresh_lead, simple_many, zero_word, cells_length, Allotted, Layout, HasArray, ArraysAre, HasEvent, EventsAre, block_controls, controls_count, most_around, CellsAre, IsChained, Framed, of_own, Pictured, living, none_yet, ListIs}
 use Rattle.std.proofs.lemmas.List.{length-replicate}
 use Rattle.algol_tree.specs.declared.token.Spot.{Spot}
 use Rattle.algol_meaning.specs.World as worlds
@@ -195,9 +197,9 @@ module _ (tree : PProgram) (code : Code) (names : HasNames tree) (nested : AreNe
         home = place 0 0;
         linked = refl;
         df = 0;
-        mark_is = as_mscw-mscw_word (record { entered = true; stack = 0; displacement = 0; df = 0 }) (omega arith);
+        mark_is = as_mscw_mscw_word (record { entered = true; stack = 0; displacement = 0; df = 0 }) (omega arith);
         back = outer_control;
-        control_is = as_rcw-rcw_word outer_control (omega arith);
+        control_is = as_rcw_rcw_word outer_control (omega arith);
         level_is = sym outer;
       }
 

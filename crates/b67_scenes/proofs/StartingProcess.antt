@@ -1,7 +1,8 @@
 -- The picture with a process more, which begins with an instance of its own: the process that has started it goes on, and all others are pictured as
 -- they were.
 use Rattle.std.proofs.Common.{◌≡◌, ◌≢◌, ◌⊎◌, inl, inr, refl, sym, ap, ◌∙◌, subst, ℕ, ◌+◌, ◌<◌, ◌≤◌, List, [], ◌∷◌, ◌++◌, length, Option, Some, None, true, arith, length-append}
-use Rattle.b67_scenes.proofs.Prelude.{numbered, set_numbered, IsListed, PProgram, Scopes, scopes_of, list_in, Instance, Process, able, lives, World, no_process, or_no_process, process_at, Word, Place as MachinePlace, Registers, Code, stack_at, Event, waiters_at, list_of, numbered_within, place, Image, woken_number, most_processes, AwaitsAt, ProcessState, Able, Texts, Core, HasCore, length_set_numbered, some_same, same_or_not, numbered_set, numbered_other, rows_but, rows_other, Layout, ArraysAre, EventsAre, Living, Pictured, living, PicturesBy, StateIs, AreAwaiting, WaitsAre}
+use Rattle.b67_list.proofs.Numbered.{numbered_set}
+use Rattle.b67_scenes.proofs.Prelude.{numbered, set_numbered, IsListed, PProgram, Scopes, scopes_of, list_in, Instance, Process, able, lives, World, no_process, or_no_process, process_at, Word, Place as MachinePlace, Registers, Code, stack_at, Event, waiters_at, list_of, numbered_within, place, Image, woken_number, most_processes, AwaitsAt, ProcessState, Able, Texts, Core, HasCore, length_set_numbered, some_same, same_or_not, numbered_other, rows_but, rows_other, Layout, ArraysAre, EventsAre, Living, Pictured, living, PicturesBy, StateIs, AreAwaiting, WaitsAre}
 use Rattle.b67_rows.proofs.Begun.{with_process, numbered_else, begun_state, others_stay, other_state, system_kept}
 use Rattle.b67_rows.proofs.Growing.{numbered_last, numbered_before, numbered_earlier}
 use Rattle.b67_scenes.proofs.Kept.{LeavesAlone, AreAlike, pictured_alike}

@@ -1,6 +1,7 @@
 -- A world in which only the state and the woken number of a process are others, and it lives as well: it leaves all processes alone.
 use Rattle.std.proofs.Common.{◌≡◌, ◌≢◌, ◌⊎◌, inl, inr, refl, sym, ap, ◌∙◌, subst, ℕ, zero, suc, List, [], ◌∷◌, Some, None, Bool, true, false}
-use Rattle.b67_scenes.proofs.Prelude.{◌&&◌, ◌||◌, slice_get, slice_set, map, numbered, set_numbered, Scopes, is_this, some_depends, Part, Process, State, lives, World, instance_at, with_process, Stack, Skeleton, OnPath, IsAmongParts, IsStanding, IsOnPath, stack_of, skeleton, some_same, same_or_not, numbered_set, numbered_other, HasFacts, IsStandingOrNone, keeps_same, Layout}
+use Rattle.b67_list.proofs.Numbered.{numbered_set}
+use Rattle.b67_scenes.proofs.Prelude.{◌&&◌, ◌||◌, slice_get, slice_set, map, numbered, set_numbered, Scopes, is_this, some_depends, Part, Process, State, lives, World, instance_at, with_process, Stack, Skeleton, OnPath, IsAmongParts, IsStanding, IsOnPath, stack_of, skeleton, some_same, same_or_not, numbered_other, HasFacts, IsStandingOrNone, keeps_same, Layout}
 use Rattle.algol_standing.specs.Skeleton.{SkeletonStands}
 use Rattle.algol_standing.specs.Lows.{WorldLow}
 use Rattle.b67_scenes.proofs.Ancestors.{AreLaid}

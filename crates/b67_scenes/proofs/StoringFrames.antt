@@ -1,10 +1,11 @@
 -- The frames of a process's parts after a store into a cell of one of them: of a variable, whose word in the stack is another one, or of an
 -- array, whose word stays.
 use Rattle.std.proofs.Common.{◌≡◌, ◌≢◌, ◌⊎◌, inl, inr, refl, sym, ap, ◌∙◌, subst, ℕ, zero, suc, ◌+◌, ◌<◌, ◌≤◌, List, [], ◌∷◌, ◌++◌, length, Option, Some, None, false, arith, length-append, Bool, true}
-use Rattle.b67_scenes.proofs.Prelude.{slice_get, slice_set, reverse, if◌then◌else◌, numbered, block_numbered, level_of, PProgram, Scopes, scopes_of, same_name, resume, is_evaluation, Cell, NamedCell, Instance, Part, World, instance_at, or_no_instance, with_instance, ancestor, cells_with, Made, KeepsToText, segment_of, IsInSkeleton, referred_in_cells, IsStanding, IsOnPath, IsOwn, newest_own, Word, Place, Code, place, Simple, Wanted, simple_cells, actuals_of, made_of, in_routine, Yields, yields_of, Texts, context_of, ComesTo, Known, newest, SlotsAre, control_words, some_same, parts_weight, same_or_not, numbered_set, numbered_other, HasFacts, IsStandingOrNone, KeepsArrays, Remain, keeps_same, denotes_lasts, Lies, lies_low, lies_around, StayBelow, around_stays, owned_frame, frame_gives, runs_at, as_many_values, StandOn, home_on, Allotted, Layout, AreMade, AreKnown, CellsAre, block_controls, most_around, IsInReach, home_of, Framed, RoutinesStand, ItemsStand, Frame, Waits, Around, Owned, Shape, of_own, of_lent, run_level}
+use Rattle.b67_list.proofs.Lists.{length_set}
+use Rattle.b67_list.proofs.Numbered.{numbered_set}
+use Rattle.b67_scenes.proofs.Prelude.{slice_get, slice_set, reverse, if◌then◌else◌, numbered, block_numbered, level_of, PProgram, Scopes, scopes_of, same_name, resume, is_evaluation, Cell, NamedCell, Instance, Part, World, instance_at, or_no_instance, with_instance, ancestor, cells_with, Made, KeepsToText, segment_of, IsInSkeleton, referred_in_cells, IsStanding, IsOnPath, IsOwn, newest_own, Word, Place, Code, place, Simple, Wanted, simple_cells, actuals_of, made_of, in_routine, Yields, yields_of, Texts, context_of, ComesTo, Known, newest, SlotsAre, control_words, some_same, parts_weight, same_or_not, numbered_other, HasFacts, IsStandingOrNone, KeepsArrays, Remain, keeps_same, denotes_lasts, Lies, lies_low, lies_around, StayBelow, around_stays, owned_frame, frame_gives, runs_at, as_many_values, StandOn, home_on, Allotted, Layout, AreMade, AreKnown, CellsAre, block_controls, most_around, IsInReach, home_of, Framed, RoutinesStand, ItemsStand, Frame, Waits, Around, Owned, Shape, of_own, of_lent, run_level}
 use Rattle.algol_meaning.specs.Rest.{Answer}
 use Rattle.b67_standing.specs.Standing.{Gives, pushed}
-use Rattle.b67_rows.proofs.StackWords.{length-set}
 use Rattle.b67_frames.specs.Frames.{context_at, text_of_part, level_of_part, most_of}
 use Rattle.b67_frames.proofs.Knowing.{HasReferred, has_reference, has_actual, referred_denoted, known_lasts, climbs_all}
 use Rattle.b67_frames.proofs.Variables.{HasNoValue, ReferencesStay}
@@ -37,7 +38,7 @@ put (Some x) words k = slice_set words k x
 
 pub length_put : (o : Option Word) (words : List Word) (k : ℕ) → length (put o words k) ≡ length words
 length_put None words k = refl
-length_put (Some x) words k = length-set words k x
+length_put (Some x) words k = length_set words k x
 
 pub put_first : (o : Option Word) (first second : List Word) (k : ℕ) → (IsStored o → k < length first) → put o (first ++ second) k ≡ put o first k ++ second
 put_first None first second k low = refl

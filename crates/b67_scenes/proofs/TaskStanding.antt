@@ -1,6 +1,7 @@
 -- The event of a process's task is in an instance that stands, and is older than all of the process's own.
 use Rattle.std.proofs.Common.{◌≡◌, inl, inr, refl, sym, ◌∙◌, subst, ℕ, zero, suc, ◌<◌, ◌≤◌, Bool, true, false, List, [], ◌∷◌, Option, Some, arith}
-use Rattle.b67_scenes.proofs.Prelude.{slice_get, numbered, Scopes, own_instances, Reference, Process, lives, World, map_back, stack_forth, IsOk, Stack, Home, IsInSkeleton, NextIn, SkeletonNext, here, down, IsOwn, IsStanding, IsOnPath, IsWholeInstance, skeleton, stack_of, some_same, none_some}
+use Rattle.b67_list.proofs.Numbers.{none_some}
+use Rattle.b67_scenes.proofs.Prelude.{slice_get, numbered, Scopes, own_instances, Reference, Process, lives, World, map_back, stack_forth, IsOk, Stack, Home, IsInSkeleton, NextIn, SkeletonNext, here, down, IsOwn, IsStanding, IsOnPath, IsWholeInstance, skeleton, stack_of, some_same}
 use Rattle.algol_standing.specs.Skeleton.{Owned}
 use Rattle.algol_standing.proofs.Laws.{paths_stand}
 use Rattle.b67_scenes.proofs.Worlds.{own_listed}

@@ -1,7 +1,8 @@
 -- Where a process finds what an action reads: the operand in the cell of a variable or a result, and the control word of a procedure.
 use Rattle.std.proofs.Common.{◌≡◌, refl, sym, ap, ◌∙◌, subst, ℕ, suc, ◌+◌, ◌≤◌, List, [], ◌∷◌, ◌++◌, length, Option, Some, None, false, arith, lit<, ◌<◌}
-use Rattle.b67_scenes.proofs.Prelude.{slice_get, reverse, Block, block_numbered, number_at, level_of, PProgram, Scopes, scopes_of, use_of, Kind, Named, is_evaluation, NamedCell, Instance, instance_at, or_no_instance, ancestor, BlockIsSeen, procedures_before, segment_of, Word, Place, as_pcw-pcw_word, Fits_pcw, as_pcw, as_sirw, pcw_word, Pcw, Couple, Code, words_of, word_at, get_within, place, display_at, Simple, result_cells_of, variables, parameter_cells, simple_cells, procedures, made_base, IsVariable, code_at, AreNested, Texts, control_words, length_around, words_are, get-front, get-behind, NearCell, value_tag, owned_frame, as_many_values, Holds_value, value_of_cell, CellsAre, block_controls, Framed, Owned}
-use Rattle.b67_control.proofs.ControlLaws.{as_sirw-other}
+use Rattle.b67_list.proofs.Lists.{get_front, get_within}
+use Rattle.b67_scenes.proofs.Prelude.{slice_get, reverse, Block, block_numbered, number_at, level_of, PProgram, Scopes, scopes_of, use_of, Kind, Named, is_evaluation, NamedCell, Instance, instance_at, or_no_instance, ancestor, BlockIsSeen, procedures_before, segment_of, Word, Place, as_pcw_pcw_word, Fits_pcw, as_pcw, as_sirw, pcw_word, Pcw, Couple, Code, words_of, word_at, place, display_at, Simple, result_cells_of, variables, parameter_cells, simple_cells, procedures, made_base, IsVariable, code_at, AreNested, Texts, control_words, length_around, words_are, get_behind, NearCell, value_tag, owned_frame, as_many_values, Holds_value, value_of_cell, CellsAre, block_controls, Framed, Owned}
+use Rattle.b67_control.proofs.ControlLaws.{as_sirw_other}
 use Rattle.b67_templates.specs.Cells as wants
 use Rattle.b67_templates.specs.Cells.{IsProcedure}
 use Rattle.b67_templates.specs.Nested.{IsDeclared}
@@ -84,7 +85,7 @@ module _ (tree : PProgram) (code : Code) (texts : Texts) (nested : AreNested (sc
   below_there n x e =
       ap (λ (k : ℕ). slice_get (words_of img.stacks k) n) (sym s.has.own)
       ∙ ap (λ (ws : List Word). slice_get ws n) (words_are img p core s.has)
-      ∙ get-front core.below (reverse core.words) n x e
+      ∙ get_front core.below (reverse core.words) n x e
 
   pub variable_there : (n : Named) (kind : Kind) (couple : Couple) → BlockIsSeen sc block n → IsVariable sc level n kind couple → Names couple IsOperand
   variable_there n kind couple seen_it v =
@@ -129,9 +130,9 @@ module _ (tree : PProgram) (code : Code) (texts : Texts) (nested : AreNested (sc
     result_lies : slice_get core.below (length s.stands.frame.lower + couple.index) ≡ Some first.word
     result_lies =
         ap (λ (ws : List Word). slice_get ws (length s.stands.frame.lower + couple.index)) s.stands.frame.words_are
-        ∙ get-behind s.stands.frame.lower (s.stands.frame.mark ∷ s.stands.frame.control ∷ s.stands.frame.cells) (suc (suc many)) (length s.stands.frame.lower + couple.index) (omega (arith, third))
+        ∙ get_behind s.stands.frame.lower (s.stands.frame.mark ∷ s.stands.frame.control ∷ s.stands.frame.cells) (suc (suc many)) (length s.stands.frame.lower + couple.index) (omega (arith, third))
         ∙ ap (λ (ws : List Word). slice_get ws many) own_frame.framed.cells_is
-        ∙ get-front own_frame.framed.values _ many first.word first.lies
+        ∙ get_front own_frame.framed.values _ many first.word first.lies
 
     pub result_there : Names couple IsOperand
     result_there =
@@ -199,9 +200,9 @@ module _ (tree : PProgram) (code : Code) (texts : Texts) (nested : AreNested (sc
       cells_lie : slice_get h.found.lies.frame.cells cell_number ≡ Some (pcw_word control)
       cells_lie =
           ap (λ (ws : List Word). slice_get ws cell_number) framed_there.cells_is
-          ∙ get-behind framed_there.values (controls_there ++ framed_there.descriptors) c.number cell_number
+          ∙ get_behind framed_there.values (controls_there ++ framed_there.descriptors) c.number cell_number
           (omega (arith, as_many_values (simple_cells sc declaring) framed_there.simple framed_there.values framed_there.simple_are))
-          ∙ get-front controls_there framed_there.descriptors c.number (pcw_word control)
+          ∙ get_front controls_there framed_there.descriptors c.number (pcw_word control)
           (get_control sc here.block framed_there.ats c.number segment
           (get_mapped (λ (m : Named). segment_of sc.blocks (number_at sc.blocks m.spot)) (procedures declaring.decls) c.number c.declared declared_there))
 
@@ -233,9 +234,9 @@ module _ (tree : PProgram) (code : Code) (texts : Texts) (nested : AreNested (sc
             is =
                 record {
                   control = control;
-                  reads = as_pcw-pcw_word control fits;
+                  reads = as_pcw_pcw_word control fits;
                   no_intrinsic = refl;
-                  no_sirw = as_sirw-other (pcw_word control) (λ k. let is = sym (pcw_kind control) ∙ k in cc);
+                  no_sirw = as_sirw_other (pcw_word control) (λ k. let is = sym (pcw_kind control) ∙ k in cc);
                 };
           }
 

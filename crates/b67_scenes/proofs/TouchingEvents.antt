@@ -1,6 +1,7 @@
 -- What the operators reach that do something with events, or make one.
 use Rattle.std.proofs.Common.{◌≡◌, ◌⊎◌, inl, inr, refl, sym, ap, ◌∙◌, subst, ℕ, ◌+◌, List, [], ◌∷◌, ◌++◌, length, Option, Some, arith, lit<}
-use Rattle.b67_scenes.proofs.Prelude.{slice_get, reverse, map, PProgram, Scopes, scopes_of, Named, Ask, ask, Word, as_irw, as_sirw, event_word, Registers, Sirw, intrinsic_number_of, couple_of_intrinsic, Couple, Intrinsic, Code, words_or, word_at, intrinsic_pcw, place, Image, frame, cell_place, sirw_cell, cell_of, AreNested, Texts, Slot, intrinsic, mark, slots_length, newest, SlotsAre, some_same, none_some, IsAsked, words_are, Top, top_slot, NearCell, StandsNear, reference_read, FindsEvent, directly, by_reference, AreFound, pcw_no_sirw}
+use Rattle.b67_list.proofs.Numbers.{none_some}
+use Rattle.b67_scenes.proofs.Prelude.{slice_get, reverse, map, PProgram, Scopes, scopes_of, Named, Ask, ask, Word, as_irw, as_sirw, event_word, Registers, Sirw, intrinsic_number_of, couple_of_intrinsic, Couple, Intrinsic, Code, words_or, word_at, intrinsic_pcw, place, Image, frame, cell_place, sirw_cell, cell_of, AreNested, Texts, Slot, intrinsic, mark, slots_length, newest, SlotsAre, some_same, IsAsked, words_are, Top, top_slot, NearCell, StandsNear, reference_read, FindsEvent, directly, by_reference, AreFound, pcw_no_sirw}
 use Rattle.algol_meaning.specs.Asks.{event_deed, makes_event}
 use Rattle.b67_deeds.specs.Deeds.{EventDeed}
 use Rattle.b67_ops.specs.declared.Operator.TheVariants as ops

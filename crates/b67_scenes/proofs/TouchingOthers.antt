@@ -1,6 +1,8 @@
 -- The processes of a picture: each has its own stack, and the marks below its floor lead to frames below floors.
 use Rattle.std.proofs.Common.{◌≡◌, refl, sym, ap, ◌∙◌, ℕ, ◌+◌, ◌<◌, ◌≤◌, List, [], ◌∷◌, length, Option, Some, None, true, arith}
-use Rattle.b67_scenes.proofs.Prelude.{slice_get, reverse, numbered, PProgram, scopes_of, Process, Part, lives, World, IsOk, IsWholeInstance, Word, Place, place_at, Registers, Code, words_of, word_at, numbered_within, place, Image, is_live, display_at, at_or, frame, floor, Lives, AreNested, Texts, steps_stay_above, Above, some_same, true_false, numbered_beyond, words_are, get-front, FrameAt, system_frame, IsNearStack, facts_of, AllLead, lead_at, Layout, FrameStands, Around, Frames, Living, Pictured, living, dead, PicturesBy}
+use Rattle.b67_list.proofs.Lists.{get_front}
+use Rattle.b67_list.proofs.Truths.{true_false}
+use Rattle.b67_scenes.proofs.Prelude.{slice_get, reverse, numbered, PProgram, scopes_of, Process, Part, lives, World, IsOk, IsWholeInstance, Word, Place, place_at, Registers, Code, words_of, word_at, numbered_within, place, Image, is_live, display_at, at_or, frame, floor, Lives, AreNested, Texts, steps_stay_above, Above, some_same, numbered_beyond, words_are, FrameAt, system_frame, IsNearStack, facts_of, AllLead, lead_at, Layout, FrameStands, Around, Frames, Living, Pictured, living, dead, PicturesBy}
 use Rattle.b67_table.specs.Privacy.{RegistersStay}
 use Rattle.b67_cores.specs.Cores.{stack_of}
 use Rattle.b67_cores.proofs.Performing.{steps_keep}
@@ -46,10 +48,10 @@ module _ (tree : PProgram) (code : Code) (texts : Texts) (w : World) (lay : Layo
     lower_word : (n : ℕ) (x : Word) → n < floor l.core.registers → slice_get (stack_of l.core) n ≡ Some x → slice_get l.settled.below n ≡ Some x
     lower_word n x low e =
         let found : (y : Word) × (slice_get l.core.below n ≡ Some y) = get_within l.core.below n (omega (arith, low, l.has.is.bottom)) in
-        let same : found.0 ≡ x = some_same (sym (get-front l.core.below (reverse l.core.words) n found.0 found.1) ∙ e) in
+        let same : found.0 ≡ x = some_same (sym (get_front l.core.below (reverse l.core.words) n found.0 found.1) ∙ e) in
         let above : Above code l.bound l.count l.core l.settled = steps_stay_above code l.bound l.count l.core l.settled l.has.is l.steps in
         ap (λ (ws : List Word). slice_get ws n) above.below
-        ∙ get-front l.core.below above.cells n x (found.1 ∙ ap (λ (y : Word). Some y) same)
+        ∙ get_front l.core.below above.cells n x (found.1 ∙ ap (λ (y : Word). Some y) same)
 
     module _ (part : Part) (outer : List Part) (s : FrameStands tree code texts w lay q part outer l.settled)
         (a : Around tree code texts w lay q outer s.frame.lower s.frame.mark s.frame.control s.frame.gives) where

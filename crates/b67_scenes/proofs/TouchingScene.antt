@@ -1,6 +1,7 @@
 -- A process that stands at its action: near are the frames to which marks and its display lead.
 use Rattle.std.proofs.Common.{◌≡◌, ◌⊎◌, inl, inr, refl, ◌∷◌, sym, ap, ◌∙◌, ℕ, ◌+◌, ◌-◌, ◌<◌, ◌≤◌, List, Some, Ok, arith}
-use Rattle.b67_scenes.proofs.Prelude.{slice_get, PProgram, Scopes, scopes_of, is_evaluation, instance_at, ancestor, newest_own, IsOnPath, IsStanding, Word, Place, as_mscw, Mscw, Operator, OUTER_LEVEL, Placed, Code, words_or, words_of, word_at, system_stack, critical_in, critical_of, display_at, floor, operator_at, Has, AreNested, Texts, some_same, none_some, most_or_more, words_are, Near, below_floor, NearFrame, FrameAt, system_frame, own_stack, StandsNear, facts_of, AllLead, lead_at}
+use Rattle.b67_list.proofs.Numbers.{none_some}
+use Rattle.b67_scenes.proofs.Prelude.{slice_get, PProgram, Scopes, scopes_of, is_evaluation, ancestor, newest_own, IsOnPath, IsStanding, Word, Place, as_mscw, Mscw, Operator, OUTER_LEVEL, Placed, Code, words_or, words_of, word_at, system_stack, critical_in, critical_of, display_at, floor, operator_at, Has, AreNested, Texts, some_same, most_or_more, words_are, Near, below_floor, NearFrame, FrameAt, system_frame, own_stack, StandsNear, facts_of, AllLead, lead_at}
 use Rattle.b67_table.specs.declared.Class.TheVariants as classes
 use Rattle.b67_table.specs.Chains.{link_of}
 use Rattle.b67_table.specs.Table.{class_at}
@@ -35,9 +36,6 @@ module _ (tree : PProgram) (code : Code) (texts : Texts) (nested : AreNested (sc
 
   abbrev text : List Placed
   text = text_in tree texts w part
-
-  abbrev block : ℕ
-  block = (instance_at w part.instance).block
 
   -- the frames that the display names are those of the instance and of its static parents
   module _ (f : Place) (l : ℕ) (low : 2 ≤ l) (high : l ≤ core.registers.ll) (e : display_at core.registers l ≡ Some f) where

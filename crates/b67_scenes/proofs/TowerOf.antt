@@ -1,6 +1,7 @@
 -- The frames of a process's parts lie one on the other, and their marks lead down.
 use Rattle.std.proofs.Common.{◌≡◌, refl, sym, ap, ◌∙◌, subst, ℕ, ◌+◌, ◌<◌, ◌≤◌, List, [], ◌∷◌, ◌++◌, length, Some, false, Ok, arith}
-use Rattle.b67_scenes.proofs.Prelude.{reverse, numbered, PProgram, Scopes, scopes_of, is_evaluation, Part, World, Word, as_mscw, as_rcw, Code, Stacks, word_at, stack_limit, place, frame_below, read_as, look_seen, Yields, Texts, slots_length, newest, entered_to, newest_low, length-stack, Begins_with, begins_front, mark_there, control_there, owned_frame, Layout, Frame, Waits, Around}
+use Rattle.b67_cores.proofs.Operating.{newest_low}
+use Rattle.b67_scenes.proofs.Prelude.{reverse, numbered, PProgram, Scopes, scopes_of, is_evaluation, Part, World, Word, as_mscw, as_rcw, Code, Stacks, word_at, stack_limit, place, frame_below, read_as, look_seen, Yields, Texts, slots_length, newest, entered_to, length_stack, Begins_with, begins_front, mark_there, control_there, owned_frame, Layout, Frame, Waits, Around}
 use Rattle.b67_rows.proofs.Marks.{Above, under_seen}
 use Rattle.b67_scenes.proofs.Staying.{level_in, frame_low}
 use Rattle.b67_scenes.proofs.Towers.{Tower, base, above}
@@ -42,7 +43,7 @@ module _ (tree : PProgram) (code : Code) (texts : Texts) (w : World) (lay : Layo
     many = slots_length sc u.held (level_in tree w next) home (length u.below) u.slots u.words u.words_are
 
     height : length lower ≡ length u.below + length u.words
-    height = ap length u.lower_is ∙ length-stack u.below u.words
+    height = ap length u.lower_is ∙ length_stack u.below u.words
 
     under_home : home < length u.below
     under_home = omega (arith, low)

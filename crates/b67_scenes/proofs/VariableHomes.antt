@@ -1,6 +1,7 @@
 -- Where a process finds the variable to whose cell a reference leads: in the frame of an instance in reach, in whatever stack.
 use Rattle.std.proofs.Common.{◌≡◌, sym, ap, ◌∙◌, subst, ℕ, ◌+◌, List, ◌∷◌, length, Some, arith, ◌<◌}
-use Rattle.b67_scenes.proofs.Prelude.{slice_get, block_numbered, PProgram, Scopes, scopes_of, Kind, Value, Reference, simple, NamedCell, Instance, instance_at, or_no_instance, cell_at, cell_in, Word, Code, word_at, get_within, place, Simple, Found, found_from, simple_cells, Wanted, HasKind, Texts, ValueIs, get-front, as_many_values, cell_front, Holds_value, value_of_cell, CellIs, IsInReach, Framed}
+use Rattle.b67_list.proofs.Lists.{get_front, get_within}
+use Rattle.b67_scenes.proofs.Prelude.{slice_get, block_numbered, PProgram, Scopes, scopes_of, Kind, Value, Reference, simple, NamedCell, Instance, instance_at, or_no_instance, cell_at, cell_in, Word, Code, word_at, place, Simple, Found, found_from, simple_cells, Wanted, HasKind, Texts, ValueIs, as_many_values, cell_front, Holds_value, value_of_cell, CellIs, IsInReach, Framed}
 use Rattle.b67_templates.specs.Cells as wants
 use Rattle.b67_frames.proofs.Variables.{Cell_of, variable_cell}
 use Rattle.b67_scenes.proofs.Scene.{Actor}
@@ -68,7 +69,7 @@ module _ (tree : PProgram) (code : Code) (texts : Texts) (actor : Actor tree cod
 
       -- the values lie before the control words
       cells_lie : slice_get h.found.lies.frame.cells c.far ≡ Some c.word
-      cells_lie = ap (λ (ws : List Word). slice_get ws c.far) framed_there.cells_is ∙ get-front framed_there.values _ c.far c.word c.lies
+      cells_lie = ap (λ (ws : List Word). slice_get ws c.far) framed_there.cells_is ∙ get_front framed_there.values _ c.far c.word c.lies
 
       low : length h.found.lies.frame.lower + (2 + c.far) < length h.found.core.below
       low =

@@ -1,9 +1,10 @@
 -- What processes wait for, and their woken numbers, stay where places stay and events stay events.
 use Rattle.std.proofs.Common.{◌≡◌, ◌≢◌, ◌⊎◌, inl, inr, refl, sym, ap, ◌∙◌, subst, ℕ, zero, suc, List, [], ◌∷◌, length, Option, Some, None, Bool, true, false}
-use Rattle.b67_scenes.proofs.Prelude.{if◌then◌else◌, slice_get, slice_set, numbered, set_numbered, IsListed, Scopes, list_in, Reference, Process, World, process_at, or_no_process, Place, one_event, same_place-self, Event, event_at, waiters_at, list_of, same_place, is_from, closed_from, Image, woken_number, AwaitsAt, ProcessState, Able, WaitsFor, WaitsAny, Procures, Ended, length_set_numbered, some_same, same_or_not, numbered_set, numbered_other, Layout, AreAwaiting, ListIs, WaitsAre}
+use Rattle.b67_list.proofs.Numbered.{numbered_set}
+use Rattle.b67_scenes.proofs.Prelude.{if◌then◌else◌, slice_get, slice_set, numbered, set_numbered, IsListed, Scopes, list_in, Reference, Process, World, process_at, or_no_process, Place, one_event, same_place_self, Event, event_at, waiters_at, list_of, same_place, is_from, closed_from, Image, woken_number, AwaitsAt, ProcessState, Able, WaitsFor, WaitsAny, Procures, Ended, length_set_numbered, some_same, same_or_not, numbered_other, Layout, AreAwaiting, ListIs, WaitsAre}
 use Rattle.b67_events.specs.Events.{state_of, with_list, event_opened, fresh}
-use Rattle.b67_events.proofs.Listed.{same_place-true}
-use Rattle.b67_events.proofs.OfSeveral.{list-own}
+use Rattle.b67_events.proofs.Listed.{same_place_true}
+use Rattle.b67_events.proofs.OfSeveral.{list_own}
 use Rattle.b67_table.specs.Image.{is_able}
 use Rattle.b67_scenes.proofs.Tasks.{EventsStay, PlacesStay, event_stays}
 
@@ -70,7 +71,7 @@ list_beside xs p r l other = list_by (set_numbered xs p l) xs r (numbered_other 
 
 pub list_there : (xs : List (List Place)) (p : ℕ) (l : List Place) → p ≢ 0 → list_of p (with_list xs p l) ≡ l
 list_there xs zero l some = absurd (some refl)
-list_there xs (suc k) l some = list-own xs k l
+list_there xs (suc k) l some = list_own xs k l
 
 -- ---- lists
 
@@ -135,10 +136,10 @@ fewer_opened to es r at listed = by_test (same_place at to) refl
   where
     by_test : (b : Bool) → same_place at to ≡ b → IsListed (waiters_at at es) r
     by_test true same =
-        let here : event_at at (event_opened to es) ≡ Some (fresh to) = ap (λ (x : Place). event_at x (event_opened to es)) (same_place-true at to same) ∙ one_event.opened_here to es in
+        let here : event_at at (event_opened to es) ≡ Some (fresh to) = ap (λ (x : Place). event_at x (event_opened to es)) (same_place_true at to same) ∙ one_event.opened_here to es in
         absurd (subst (λ (o : Option Event). IsListed (state_of o).waiters r) here listed)
     by_test false other =
-        subst (λ (o : Option Event). IsListed (state_of o).waiters r) (one_event.opened_elsewhere to at (λ (e : at ≡ to). apart (sym other ∙ same_place-self at to e)) es) listed
+        subst (λ (o : Option Event). IsListed (state_of o).waiters r) (one_event.opened_elsewhere to at (λ (e : at ≡ to). apart (sym other ∙ same_place_self at to e)) es) listed
       where
         apart : false ≡ true → ⊥
         apart e = cc

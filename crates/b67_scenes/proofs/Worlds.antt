@@ -1,6 +1,7 @@
 -- What holds of a world that is pictured, and is as worlds are: an evaluation in an instance that has not made all keeps to what is around it.
 use Rattle.std.proofs.Common.{◌≡◌, ◌≢◌, ◌⊎◌, inl, inr, refl, sym, ap, ◌∙◌, subst, ℕ, zero, suc, Bool, true, false, List, [], ◌∷◌, length, Some}
-use Rattle.b67_scenes.proofs.Prelude.{if◌then◌else◌, slice_get, numbered, PProgram, Scopes, scopes_of, is_evaluation, own_instances, Instance, Process, Part, State, lives, World, instance_at, or_no_instance, all_to_make, IsSeenAround, InRest, map_back, stack_forth, parent_path, stands_path, IsOk, IsInSkeleton, Stack, IsAmongParts, IsNoBlock, IsOwn, IsStanding, IsWholeInstance, skeleton, stack_of, Word, Place, Code, place, Image, Yields, Texts, Core, some_same, true_false, same_or_not, complete_of, IsElsewhere, owned_frame, Lies, lies_in, Layout, IsComplete, IsNarrow, ArePlaced, Frame, Around, Frames, Owned, Pictured, living, dead, PicturesBy}
+use Rattle.b67_list.proofs.Truths.{true_false}
+use Rattle.b67_scenes.proofs.Prelude.{if◌then◌else◌, slice_get, numbered, PProgram, Scopes, scopes_of, is_evaluation, own_instances, Instance, Process, Part, State, lives, World, instance_at, or_no_instance, all_to_make, IsSeenAround, InRest, map_back, stack_forth, parent_path, stands_path, IsOk, IsInSkeleton, Stack, IsAmongParts, IsNoBlock, IsOwn, IsStanding, IsWholeInstance, skeleton, stack_of, Word, Place, Code, place, Image, Yields, Texts, Core, some_same, same_or_not, complete_of, IsElsewhere, owned_frame, Lies, lies_in, Layout, IsComplete, IsNarrow, ArePlaced, Frame, Around, Frames, Owned, Pictured, living, dead, PicturesBy}
 use Rattle.algol_standing.specs.Worlds as worlds
 use Rattle.algol_standing.proofs.Seen.{there as there_is}
 use Rattle.b67_frames.specs.Frames as frames

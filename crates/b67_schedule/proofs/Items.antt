@@ -6,14 +6,12 @@ use Rattle.std.proofs.lemmas.List.Concat.{flat_map-append}
 use Rattle.b67_text.specs.Texts.{StopsAt, PartStands}
 use Rattle.b67_text.specs.Numerals.{NumberIsIn}
 use Rattle.b67_text.proofs.Parts.{Parted, first_stops, Leads, second_stops, stands_on}
+use Rattle.b67_list.proofs.Numbers.{one_target}
 use Rattle.b67_schedule.specs.Lines.{CanFollow, Follow, last_process, IsLine, AreLines}
 use Rattle.b67_schedule.specs.Reading.{numbers_of_schedule}
 
 pub none_some : (n : ℕ) → None ≢ Some n
 none_some n e = cc
-
-pub same_some : (n m : ℕ) → Some n ≡ Some m → n ≡ m
-same_some n m e = cc
 
 -- ---- processes
 
@@ -36,7 +34,7 @@ other_is (suc (suc n)) = record { least = omega arith; greatest = omega arith; a
 other_in : (before : ℕ) → NumberIsIn (numbers_of_schedule 1 (Some before)) (other_than before)
 other_in before =
     let is = other_is before in
-    record { fits = omega (arith, is.greatest); least = is.least; most = omega (arith, is.greatest); other = λ e. is.apart (same_some before (other_than before) e) }
+    record { fits = omega (arith, is.greatest); least = is.least; most = omega (arith, is.greatest); other = λ e. is.apart (one_target before (other_than before) e) }
 
 pub one_in : NumberIsIn (numbers_of_schedule 1 None) 1
 one_in = record { fits = omega arith; least = omega arith; most = omega arith; other = none_some 1 }
@@ -117,7 +115,7 @@ module _ (L : Type 0) (process : L → ℕ) (Is : L → Type 0) (line : L → Li
       let here : process (have.some (other_than before)) ≡ other_than before = have.some_process (other_than before) in (
         record {
           is = have.some_is (other_than before) is.least is.greatest;
-          other = λ e. is.apart (same_some before (process (have.some (other_than before))) e ∙ here);
+          other = λ e. is.apart (one_target before (process (have.some (other_than before))) e ∙ here);
         },
         subst (λ (n : ℕ). Fs (Some n) (in_turn (other_than before) count)) (sym here) (in_turn_follow (other_than before) count),
       )

@@ -1,11 +1,10 @@
 -- The lines of version 2, and where they stop.
-use Rattle.std.proofs.Common.{◌≡◌, ℕ, ◌+◌, ◌^◌, ◌<◌, ◌≤◌, zero, suc, Option, None, Some, List, [], ◌∷◌, ◌++◌, length, drop, refl, sym, ap, subst, arith, ◌∙◌, append_assoc, codes}
+use Rattle.std.proofs.Common.{◌≡◌, ℕ, ◌^◌, ◌<◌, ◌≤◌, zero, suc, Option, None, Some, List, [], ◌∷◌, ◌++◌, length, drop, refl, sym, ap, subst, arith, ◌∙◌, append_assoc, codes}
 use Rattle.std.specs.Prelude.{slice_get}
 use Rattle.std.specs.Fmt.{decimal}
-use Rattle.std.proofs.lemmas.List.{append-nil, length-append, map-append}
 use Rattle.b67_text.specs.Texts.{Begins, StopsAt, PartStands, AreApart, HasByte}
 use Rattle.b67_text.specs.Numerals.{IsDigit, NumberIsIn, IsField}
-use Rattle.b67_text.proofs.Fronts.{fields_alike, Ends, stops_at, byte_at, stands_more, stands_none}
+use Rattle.b67_text.proofs.Fronts.{fields_alike, Ends, stops_at, byte_at}
 use Rattle.b67_text.proofs.Parts.{first_stops, Leads, second_stops, stands_on}
 use Rattle.b67_deeds.specs.declared.Letter.{Letter}
 use Rattle.b67_deeds.specs.declared.Letter.TheVariants.{Read}
@@ -58,12 +57,6 @@ module _ (bytes : List ℕ) (at next times : ℕ) (before after : List Letter) (
             dead_by byte more e no_end is.letters is.some is.few
             (ahead is.letters m.letters byte b.0 (sym is.text_is ∙ append_assoc (bytes_of m.letters) (byte ∷ []) b.0));
       })
-
--- one more letter stands
-pub one_stands : (bytes : List ℕ) (at next : ℕ) (letters : List Letter) (letter : Letter) → PartStands (bytes_of letters) bytes at next → HasByte (byte_of letter) bytes next
-    → PartStands (bytes_of (letters ++ letter ∷ [])) bytes at (next + 1)
-one_stands bytes at next letters letter st here =
-    subst (λ (t : List ℕ). PartStands t bytes at (next + 1)) (sym (map-append byte_of letters (letter ∷ []))) (stands_more (bytes_of letters) bytes at next (byte_of letter) st here)
 
 -- ---- lines
 
@@ -177,30 +170,6 @@ pub record SoFar (bytes : List ℕ) (at : ℕ) (before after : List Letter) (tim
   pub times_are : times ≡ length letters
   pub few : length letters ≤ most_in_schedule
   pub stand : PartStands (bytes_of letters) bytes at next
-
-pub none_yet : (bytes : List ℕ) (at : ℕ) (before : List Letter) → at ≤ length bytes → SoFar bytes at before before 0 at
-none_yet bytes at before within = record { letters = []; added = sym (append-nil before); times_are = refl; few = omega arith; stand = stands_none bytes at within }
-
-pub one_more : (bytes : List ℕ) (at : ℕ) (before after new : List Letter) (times next : ℕ) (letter : Letter) → SoFar bytes at before after times next → times < most_in_schedule
-    → HasByte (byte_of letter) bytes next → new ≡ after ++ letter ∷ [] → SoFar bytes at before new (times + 1) (next + 1)
-one_more bytes at before after new times next letter s less here is = record {
-  letters = s.letters ++ letter ∷ [];
-  added = is ∙ ap (λ (ls : List Letter). ls ++ letter ∷ []) s.added ∙ append_assoc before s.letters (letter ∷ []);
-  times_are = omega (arith, s.times_are, length-append s.letters (letter ∷ []));
-  few = omega (arith, s.times_are, less, length-append s.letters (letter ∷ []));
-  stand = one_stands bytes at next s.letters letter s.stand here;
-}
-
-pub no_more : (bytes : List ℕ) (at : ℕ) (before after : List Letter) (times next : ℕ) → SoFar bytes at before after times next
-    → ((letter : Letter) → HasByte (byte_of letter) bytes next → times < most_in_schedule → ⊥) → AreMost bytes at before after times next
-no_more bytes at before after times next s none = record {
-  letters = s.letters;
-  added = s.added;
-  times_are = s.times_are;
-  few = s.few;
-  stand = s.stand;
-  longest = λ letter here less. none letter here (omega (arith, s.times_are, less));
-}
 
 pub line_refused : (e : ReadSchedule) (before : Option ℕ) (bytes : List ℕ) (at mid n : ℕ) → NumberIsIn (numbers_of_schedule 1 before) n → PartStands (process_part n) bytes at mid →
     RefusesAt e AreLetters bytes mid → RefusesAt e (IsLetterLine before) bytes at

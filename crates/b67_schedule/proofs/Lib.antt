@@ -10,3 +10,4 @@ pub mod Writing
 pub mod Versions
 pub mod Pushes
 pub mod Counted
+pub mod Cited

@@ -1,10 +1,9 @@
 -- Lines of version 2 that are read, one after another.
-use Rattle.std.proofs.Common.{◌≡◌, ℕ, ◌+◌, ◌<◌, ◌≤◌, Option, None, Some, List, [], ◌∷◌, ◌++◌, length, map, refl, sym, ap, subst, arith, ◌∙◌}
+use Rattle.std.proofs.Common.{◌≡◌, ℕ, ◌+◌, ◌<◌, ◌≤◌, Option, None, Some, List, [], ◌∷◌, ◌++◌, length, map, sym, ap, subst, arith, ◌∙◌}
 use Rattle.std.specs.List.{flat_map}
 use Rattle.std.proofs.lemmas.List.{append-nil, length-append, length-map, map-append}
 use Rattle.std.proofs.lemmas.List.Concat.{flat_map-append}
 use Rattle.b67_text.specs.Texts.{StopsAt, PartStands}
-use Rattle.b67_text.proofs.Fronts.{stands_none}
 use Rattle.b67_schedule.specs.declared.Run.{Run}
 use Rattle.b67_deeds.specs.declared.Letter.{Letter}
 use Rattle.b67_schedule.specs.declared.refusal.ReadSchedule.{ReadSchedule}
@@ -23,17 +22,6 @@ pub record LinesRead (bytes : List ℕ) (at next : ℕ) (before : Option ℕ) (r
   pub letters_are : letters ≡ flat_map letters_in items
   pub few : length runs ≤ count
   pub lines : PartStands (flat_map line_in items) bytes at next
-
-pub no_lines : (bytes : List ℕ) (at count : ℕ) → at ≤ length bytes → LinesRead bytes at at None [] [] count
-no_lines bytes at count within = record {
-  items = [];
-  stand = tt;
-  before_is = refl;
-  runs_are = refl;
-  letters_are = refl;
-  few = omega arith;
-  lines = stands_none bytes at within;
-}
 
 module _ (bytes : List ℕ) (at next : ℕ) (before : Option ℕ) (runs : List Run) (letters : List Letter) (count : ℕ) (r : LinesRead bytes at next before runs letters count)
     (few : length runs < count) where

@@ -56,7 +56,7 @@ runs_back (run ∷ runs) letters e =
     ap (λ (n : ℕ). record { process = run.process; times = n } ∷ map run_in (items_of runs (drop run.times letters))) s.own
     ∙ ap (λ (rs : List Run). run ∷ rs) (runs_back runs (drop run.times letters) s.rest)
 
-nothing : (xs : List Letter) → length xs ≡ 0 → xs ≡ []
+pub nothing : (xs : List Letter) → length xs ≡ 0 → xs ≡ []
 nothing [] e = refl
 nothing (x ∷ xs) e = absurd (omega (arith, e))
 

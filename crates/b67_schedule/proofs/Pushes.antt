@@ -11,8 +11,8 @@ use Rattle.b67_deeds.specs.declared.Letter.{Letter}
 use Rattle.b67_schedule.specs.Schedules.{most_in_schedule, entries, IsRun, AreRuns, IsSchedule, IsLastRun}
 
 -- the entries of a last run
-pub entries-push : (runs : List Run) (run : Run) → entries (runs ++ run ∷ []) ≡ entries runs ++ replicate run.times run.process
-entries-push runs run =
+pub entries_push : (runs : List Run) (run : Run) → entries (runs ++ run ∷ []) ≡ entries runs ++ replicate run.times run.process
+entries_push runs run =
     flat_map-append (λ (r : Run). replicate r.times r.process) runs (run ∷ []) ∙ ap (λ e. entries runs ++ e) (append-nil (replicate run.times run.process))
 
 -- a list with an element is what is before its last one, and that
@@ -28,23 +28,23 @@ set_last runs run some =
     set_split runs (length runs - 1) run (omega arith) ∙ ap (λ rest. take (length runs - 1) runs ++ run ∷ rest) none
 
 -- a run has as many entries as its times say
-times-le : (runs : List Run) (n : ℕ) (d : Run) → n < length runs → (get_or runs n d).times ≤ length (entries runs)
-times-le [] n d p = absurd (omega arith)
-times-le (run ∷ runs) zero d p = rw (length-append, length-replicate) (omega arith)
-times-le (run ∷ runs) (suc n) d p = let below = times-le runs n d (omega arith) in rw (length-append, length-replicate) (omega arith)
+times_le : (runs : List Run) (n : ℕ) (d : Run) → n < length runs → (get_or runs n d).times ≤ length (entries runs)
+times_le [] n d p = absurd (omega arith)
+times_le (run ∷ runs) zero d p = rw (length-append, length-replicate) (omega arith)
+times_le (run ∷ runs) (suc n) d p = let below = times_le runs n d (omega arith) in rw (length-append, length-replicate) (omega arith)
 
 -- no run is without entries
-pub length-le-entries : (runs : List Run) → All IsRun runs → length runs ≤ length (entries runs)
-length-le-entries [] all = omega arith
-length-le-entries (run ∷ runs) all =
-    let rest = length-le-entries runs (All-tail IsRun run runs all) in
+pub length_le_entries : (runs : List Run) → All IsRun runs → length runs ≤ length (entries runs)
+length_le_entries [] all = omega arith
+length_le_entries (run ∷ runs) all =
+    let rest = length_le_entries runs (All-tail IsRun run runs all) in
     let first = (All-head IsRun run runs all).times_least in
     rw (length-append, length-replicate) (omega arith)
 
 -- a run that is written over by one of the same process leaves the process of each run
-process-set : (runs : List Run) (n k : ℕ) (run d : Run) → n < length runs → run.process ≡ (get_or runs n run).process →
+process_set : (runs : List Run) (n k : ℕ) (run d : Run) → n < length runs → run.process ≡ (get_or runs n run).process →
     (get_or (set runs n run) k d).process ≡ (get_or runs k d).process
-process-set runs n k run d inside same =
+process_set runs n k run d inside same =
     ⊎_elim (λ (e : k ≡ n).
     let written : get_or (set runs n run) n d ≡ run = get_or-set_same runs n run d inside in
     let default : get_or runs n run ≡ get_or runs n d = get_or_default runs n run d inside in
@@ -52,24 +52,24 @@ process-set runs n k run d inside same =
     (λ (other : k ≡ n → ⊥). ap (λ (r : Run). r.process) (get_or-set_other runs n k run d other)) (cases_eq k n)
 
 -- a last run that is longer
-pub entries-raised : (runs : List Run) (last : Run) (n : ℕ) → 0 < length runs → last ≡ get_or runs (length runs - 1) last →
+pub entries_raised : (runs : List Run) (last : Run) (n : ℕ) → 0 < length runs → last ≡ get_or runs (length runs - 1) last →
     entries (set runs (length runs - 1) record { process = last.process; times = last.times + n }) ≡ entries runs ++ replicate n last.process
-entries-raised runs last n some is =
+entries_raised runs last n some is =
     let front = take (length runs - 1) runs in
     let whole : runs ≡ front ++ last ∷ [] = split_last runs last some ∙ ap (λ (r : Run). front ++ r ∷ []) (sym is) in
     ap entries (set_last runs record { process = last.process; times = last.times + n } some)
-    ∙ entries-push front record { process = last.process; times = last.times + n }
+    ∙ entries_push front record { process = last.process; times = last.times + n }
     ∙ ap (λ e. entries front ++ e) (sym (replicate-append-replicate last.times n last.process))
     ∙ sym (append_assoc (entries front) (replicate last.times last.process) (replicate n last.process))
-    ∙ ap (λ e. e ++ replicate n last.process) (sym (entries-push front last))
+    ∙ ap (λ e. e ++ replicate n last.process) (sym (entries_push front last))
     ∙ ap (λ rs. entries rs ++ replicate n last.process) (sym whole)
 
-pub AreRuns-raised : (runs : List Run) (last : Run) (n : ℕ) → 0 < length runs → last ≡ get_or runs (length runs - 1) last → AreRuns runs → length (entries runs) + n ≤ most_in_schedule →
+pub AreRuns_raised : (runs : List Run) (last : Run) (n : ℕ) → 0 < length runs → last ≡ get_or runs (length runs - 1) last → AreRuns runs → length (entries runs) + n ≤ most_in_schedule →
     AreRuns (set runs (length runs - 1) record { process = last.process; times = last.times + n })
-AreRuns-raised runs last n some is valid small =
+AreRuns_raised runs last n some is valid small =
     let inside : length runs - 1 < length runs = omega arith in
     let run : IsRun last = subst IsRun (sym is) (valid.numbers (length runs - 1) last inside) in
-    let times = times-le runs (length runs - 1) last inside in
+    let times = times_le runs (length runs - 1) last inside in
     let same : last.times ≡ (get_or runs (length runs - 1) last).times = ap (λ (r : Run). r.times) is in
     let raised : Run = record { process = last.process; times = last.times + n } in
     let process : raised.process ≡ (get_or runs (length runs - 1) raised).process =
@@ -78,15 +78,15 @@ AreRuns-raised runs last n some is valid small =
       numbers = All-set IsRun runs (length runs - 1) raised
           record { process_least = run.process_least; process_greatest = run.process_greatest; times_least = omega (arith, run.times_least); times_greatest = omega arith } valid.numbers;
       differ = λ k d within equal. valid.differ k d (rw length-set at within)
-          (sym (process-set runs (length runs - 1) k raised d inside process) ∙ equal ∙ process-set runs (length runs - 1) (k + 1) raised d inside process);
+          (sym (process_set runs (length runs - 1) k raised d inside process) ∙ equal ∙ process_set runs (length runs - 1) (k + 1) raised d inside process);
       few = rw length-set valid.few;
     }
 
 -- a new last run
-pub AreRuns-pushed : (runs : List Run) (process n : ℕ) → AreRuns runs → length (entries runs) + n ≤ most_in_schedule → 1 ≤ n → 1 ≤ process → process ≤ most_in_schedule → (IsLastRun runs process → ⊥) →
+pub AreRuns_pushed : (runs : List Run) (process n : ℕ) → AreRuns runs → length (entries runs) + n ≤ most_in_schedule → 1 ≤ n → 1 ≤ process → process ≤ most_in_schedule → (IsLastRun runs process → ⊥) →
     AreRuns (runs ++ record { process = process; times = n } ∷ [])
-AreRuns-pushed runs process n valid small some least greatest new =
-    let count = length-le-entries runs valid.numbers in
+AreRuns_pushed runs process n valid small some least greatest new =
+    let count = length_le_entries runs valid.numbers in
     let run : Run = record { process = process; times = n } in
     record {
       numbers = All-push IsRun runs run valid.numbers record { process_least = least; process_greatest = greatest; times_least = some; times_greatest = omega arith };
@@ -126,18 +126,15 @@ raised runs count process n last is ends read valid small =
     let at_end : last ≡ get_or runs (length runs - 1) last = rw is at read in
     let same : last.process ≡ process = ap (λ (r : Run). r.process) at_end ∙ ends.1 last in
     rw (is, ← same) (counted runs (set runs (length runs - 1) record { process = last.process; times = last.times + n }) last.process n
-    (AreRuns-raised runs last n ends.0 at_end valid small) (entries-raised runs last n ends.0 at_end))
+    (AreRuns_raised runs last n ends.0 at_end valid small) (entries_raised runs last n ends.0 at_end))
 
 pub pushed : (runs new : List Run) (process n : ℕ) → new ≡ runs ++ record { process = process; times = n } ∷ [] → AreRuns runs → length (entries runs) + n ≤ most_in_schedule → 1 ≤ n →
     1 ≤ process → process ≤ most_in_schedule → (IsLastRun runs process → ⊥) → Added runs new process n
 pushed runs new process n is valid small some least greatest other =
     rw is (counted runs (runs ++ record { process = process; times = n } ∷ []) process n
-    (AreRuns-pushed runs process n valid small some least greatest other) (entries-push runs record { process = process; times = n }))
+    (AreRuns_pushed runs process n valid small some least greatest other) (entries_push runs record { process = process; times = n }))
 
 -- a schedule with room for more actions has room for more runs
 pub runs_room : (runs : List Run) (letters : List Letter) (capacity other n : ℕ) → IsSchedule runs letters → length letters + n ≤ min capacity other → 1 ≤ n → length runs < capacity
 runs_room runs letters capacity other n is room some =
-    let count = length-le-entries runs is.runs_are.numbers in omega (arith, count, is.each, room, some)
-
-pub letters_room : (runs : List Run) (letters : List Letter) (capacity other n : ℕ) → IsSchedule runs letters → length letters + n ≤ min capacity other → length letters + n ≤ other
-letters_room runs letters capacity other n is room = omega (arith, room)
+    let count = length_le_entries runs is.runs_are.numbers in omega (arith, count, is.each, room, some)

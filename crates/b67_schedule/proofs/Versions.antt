@@ -7,6 +7,7 @@ use Rattle.b67_text.specs.declared.BadText.{BadText}
 use Rattle.b67_text.specs.Texts.{Begins, IsRefused, StopsAt, PartStands}
 use Rattle.b67_text.proofs.Fronts.{IsWord, word_stops}
 use Rattle.b67_text.proofs.Parts.{refused_where_it_stops}
+use Rattle.b67_list.proofs.Numbers.{one_target}
 use Rattle.b67_schedule.specs.declared.Run.{Run}
 use Rattle.b67_deeds.specs.declared.Letter.{Letter}
 use Rattle.b67_schedule.specs.declared.reading.Given.{Given}
@@ -16,7 +17,6 @@ use Rattle.b67_schedule.specs.declared.refusal.ReadSchedule.TheVariants.{Bad, No
 use Rattle.b67_schedule.specs.Schedules.{OldText, ScheduleText}
 use Rattle.b67_schedule.specs.Reading.{IsOldText, IsScheduleText, IsGivenText, ScheduleRefuses}
 use Rattle.b67_schedule.specs.Giving.{IsTextOf, SaySame}
-use Rattle.b67_schedule.proofs.Items.{same_some}
 use Rattle.b67_schedule.proofs.Wholes.{count_part}
 use Rattle.b67_schedule.proofs.OldTexts as old
 use Rattle.b67_schedule.proofs.OldTexts.{follow_runs}
@@ -50,7 +50,7 @@ other_stops rest =
     word_stops new.head (old.head ++ rest) 0 9 9 (omega arith) (record { within = omega arith; next_is = refl; part_is = refl }) (λ e. differ e)
   where
     differ : slice_get (old.head ++ rest) 9 ≡ Some 50 → ⊥
-    differ e = let same : ◌≡◌ {A = ℕ} 49 50 = same_some 49 50 e in omega (arith, same)
+    differ e = let same : ◌≡◌ {A = ℕ} 49 50 = one_target 49 50 e in omega (arith, same)
 
 other_refused : (bytes : List ℕ) (next : ℕ) → PartStands old.head bytes 0 next → IsRefused IsScheduleText bytes 9
 other_refused bytes next st =
@@ -82,7 +82,7 @@ two_refused bytes old_byte byte stop refused =
 -- ---- what is given
 
 pub apart : (runs others : List Run) (letters : List Letter) → OldText runs ≡ ScheduleText others letters → ⊥
-apart runs others letters e = let same : ◌≡◌ {A = ℕ} 49 50 = same_some 49 50 (ap (λ (t : List ℕ). slice_get t 9) e) in omega (arith, same)
+apart runs others letters e = let same : ◌≡◌ {A = ℕ} 49 50 = one_target 49 50 (ap (λ (t : List ℕ). slice_get t 9) e) in omega (arith, same)
 
 pub given_same : (found given : Given) (bytes : List ℕ) → IsTextOf found bytes → IsTextOf given bytes → SaySame found given
 given_same (One a) (One b) bytes p q = old.one_text a.runs b.runs [] [] p.0 q.0 (ap (λ (t : List ℕ). t ++ []) (sym p.1 ∙ q.1))

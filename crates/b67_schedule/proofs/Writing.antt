@@ -6,12 +6,9 @@ use Rattle.b67_deeds.specs.declared.Letter.{Letter}
 use Rattle.b67_deeds.specs.Letters.{byte_of}
 use Rattle.b67_schedule.specs.Letters.{bytes_of}
 use Rattle.b67_schedule.specs.Schedules.{entries, letter_line, letter_lines}
-use Rattle.b67_schedule.proofs.Pushes.{entries-push}
+use Rattle.b67_schedule.proofs.Pushes.{entries_push}
 use Rattle.std.specs.Prelude.{if◌then◌else◌, Result, Ok, Err, OnOk, is_ok}
-
-nothing : (xs : List Letter) → length xs ≡ 0 → xs ≡ []
-nothing [] e = refl
-nothing (x ∷ xs) e = absurd (omega (arith, e))
+use Rattle.b67_schedule.proofs.NewTexts.{nothing}
 
 -- how many letters are the first run's
 first_few : (run : Run) (runs : List Run) (letters : List Letter) → length letters ≡ length (entries (run ∷ runs)) → (run.times ≤ length letters) × (length (drop run.times letters) ≡ length (entries runs))
@@ -65,16 +62,6 @@ one_written front letters at k d inside is =
     ∙ ap (λ (xs : List ℕ). front ++ xs) (written letters k (length letters - (k + 1)) d (omega (arith, inside)))
     ∙ ap (λ (n : ℕ). front ++ (bytes_of (take n letters) ++ replicate (length letters - (k + 1)) 0)) next
 
-pub none_written : (front : List ℕ) (letters : List Letter) (n : ℕ) → n ≡ length letters → front ++ replicate n 0 ≡ front ++ (bytes_of (take 0 letters) ++ replicate (length letters - 0) 0)
-none_written front letters n e = ap (λ (k : ℕ). front ++ replicate k 0) (omega (arith, e))
-
-pub all_written : (front : List ℕ) (letters : List Letter) → front ++ (bytes_of (take (length letters) letters) ++ replicate (length letters - length letters) 0) ≡ front ++ bytes_of letters
-all_written front letters =
-    let whole : take (length letters) letters ≡ letters = take_all (length letters) letters (omega arith) in
-    let none : length letters - length letters ≡ 0 = omega arith in
-    ap (λ (ls : List Letter). front ++ (bytes_of ls ++ replicate (length letters - length letters) 0)) whole
-    ∙ ap (λ (k : ℕ). front ++ (bytes_of letters ++ replicate k 0)) none ∙ ap (λ (xs : List ℕ). front ++ xs) (append-nil (bytes_of letters))
-
 -- ---- where a run's letters stand
 
 all : (run : Run) (runs : List Run) → length (entries (run ∷ runs)) ≡ run.times + length (entries runs)
@@ -88,7 +75,7 @@ run_within (run ∷ runs) (suc i) d inside = omega (arith, run_within runs i d (
 pub entries_next : (runs : List Run) (i : ℕ) (d : Run) → i < length runs → length (entries (take (i + 1) runs)) ≡ length (entries (take i runs)) + (get_or runs i d).times
 entries_next runs i d inside =
     let run : Run = get_or runs i d in
-    ap (λ (rs : List Run). length (entries rs)) (take_more runs i d inside) ∙ ap length (entries-push (take i runs) run)
+    ap (λ (rs : List Run). length (entries rs)) (take_more runs i d inside) ∙ ap length (entries_push (take i runs) run)
     ∙ length-append (entries (take i runs)) (replicate run.times run.process) ∙ ap (λ (n : ℕ). length (entries (take i runs)) + n) (length-replicate run.times run.process)
 
 -- the text up to a run, and the run's line

@@ -7,37 +7,37 @@ use Rattle.b67_ops.specs.declared.Operator.{Operator}
 use Rattle.b67_ops.specs.declared.Operator.TheVariants.{Valc, Namc, Lt8, Lt16, Lt48, Mpcw, Branch, Plain}
 use Rattle.b67_ops.specs.declared.BranchKind.{BranchKind}
 use Rattle.b67_ops.specs.Spelling.{spelling, OperatorStands}
-use Rattle.b67_ops.proofs.Laws.{decoded-stands}
+use Rattle.b67_ops.proofs.Laws.{decoded_stands}
 use Rattle.b67_segment.specs.declared.code.Segment.{Segment}
 use Rattle.b67_segment.specs.declared.code.Code.{Code}
 use Rattle.b67_segment.specs.Operators.{Placed, width, text, size, IsFit, AreFit, StandsAmong, aimed, aimed_from}
 use Rattle.b67_segment.specs.Syllables.{syllables, Spells}
 use Rattle.b67_segment.specs.Fetching.{fetched_from, fetched, StandsIn}
-use Rattle.b67_segment.proofs.Texts.{text-append}
-use Rattle.b67_segment.proofs.Aiming.{aimed-at, AreFit-parts}
+use Rattle.b67_segment.proofs.Texts.{text_append}
+use Rattle.b67_segment.proofs.Aiming.{aimed_at, AreFit_parts}
 
 -- the place after one more operator
-pub size-append : (ps : List Placed) (p : Placed) → size (ps ++ p ∷ []) ≡ size ps + width (size ps) p
-size-append ps p =
+pub size_append : (ps : List Placed) (p : Placed) → size (ps ++ p ∷ []) ≡ size ps + width (size ps) p
+size_append ps p =
     let sp = spelling (size ps) p.level p.operator in
-    ap length (text-append 0 ps (p ∷ []) ∙ ap (λ k. text 0 ps ++ text k (p ∷ [])) (omega arith) ∙ ap (λ xs. text 0 ps ++ xs) (append-nil sp))
+    ap length (text_append 0 ps (p ∷ []) ∙ ap (λ k. text 0 ps ++ text k (p ∷ [])) (omega arith) ∙ ap (λ xs. text 0 ps ++ xs) (append-nil sp))
     ∙ length-append (text 0 ps) sp
 
 -- what is appended stands at the end
-pub StandsAmong-appended : (ps : List Placed) (level : ℕ) (op : Operator)
+pub StandsAmong_appended : (ps : List Placed) (level : ℕ) (op : Operator)
     → StandsAmong (ps ++ record { level = level; operator = op } ∷ []) (size ps) level op (size (ps ++ record { level = level; operator = op } ∷ []))
-StandsAmong-appended ps level op = record {
+StandsAmong_appended ps level op = record {
   before = ps;
   after = [];
   parts = refl;
   at_is = refl;
-  next_is = size-append ps (record { level = level; operator = op });
+  next_is = size_append ps (record { level = level; operator = op });
 }
 
 -- what stands still stands after more
-pub StandsAmong-kept : {ps : List Placed} {at level : ℕ} {op : Operator} {next : ℕ} (more : List Placed)
+pub StandsAmong_kept : {ps : List Placed} {at level : ℕ} {op : Operator} {next : ℕ} (more : List Placed)
     → StandsAmong ps at level op next → StandsAmong (ps ++ more) at level op next
-StandsAmong-kept {ps} {at} {level} {op} {next} more s = record {
+StandsAmong_kept {ps} {at} {level} {op} {next} more s = record {
   before = s.before;
   after = s.after ++ more;
   parts = ap (λ qs. qs ++ more) s.parts ∙ append_assoc s.before (record { level = level; operator = op } ∷ s.after) more;
@@ -46,15 +46,15 @@ StandsAmong-kept {ps} {at} {level} {op} {next} more s = record {
 }
 
 -- a branch is as wide wherever it goes
-aimed-width : (at level target : ℕ) (op : Operator) → length (spelling at level (aimed target op)) ≡ length (spelling at level op)
-aimed-width at level target (Valc couple) = refl
-aimed-width at level target (Namc couple) = refl
-aimed-width at level target (Lt8 n) = refl
-aimed-width at level target (Lt16 n) = refl
-aimed-width at level target (Lt48 n) = refl
-aimed-width at level target (Mpcw n) = refl
-aimed-width at level target (Branch kind place) = refl
-aimed-width at level target (Plain kind) = refl
+pub aimed_width : (at level target : ℕ) (op : Operator) → length (spelling at level (aimed target op)) ≡ length (spelling at level op)
+aimed_width at level target (Valc couple) = refl
+aimed_width at level target (Namc couple) = refl
+aimed_width at level target (Lt8 n) = refl
+aimed_width at level target (Lt16 n) = refl
+aimed_width at level target (Lt48 n) = refl
+aimed_width at level target (Mpcw n) = refl
+aimed_width at level target (Branch kind place) = refl
+aimed_width at level target (Plain kind) = refl
 
 -- an operator among others that are aimed, with as many syllables before it
 pub record Aside (from : ℕ) (before : List Placed) (p : Placed) (all : List Placed) : Type 0 where
@@ -63,20 +63,20 @@ pub record Aside (from : ℕ) (before : List Placed) (p : Placed) (all : List Pl
   pub parts : all ≡ front ++ p ∷ back
   pub same : length (text from front) ≡ length (text from before)
 
-aimed-aside : (from place target : ℕ) (before after : List Placed) (p : Placed) → from + length (text from before) ≢ place
+aimed_aside : (from place target : ℕ) (before after : List Placed) (p : Placed) → from + length (text from before) ≢ place
     → Aside from before p (aimed_from from place target (before ++ p ∷ after))
-aimed-aside from place target [] after p h = record {
+aimed_aside from place target [] after p h = record {
   front = [];
   back = aimed_from (from + width from p) place target after;
   parts = cond-false (eqb from place) _ _ (ne_eqb from place (λ e. h (omega arith)));
   same = refl;
 }
-aimed-aside from place target (q ∷ before) after p h =
+aimed_aside from place target (q ∷ before) after p h =
     let next = from + width from q in
     let changed : Placed = record { level = q.level; operator = aimed target q.operator } in
     let there = changed ∷ before ++ p ∷ after in
     let further = q ∷ aimed_from next place target (before ++ p ∷ after) in
-    let wide = aimed-width from q.level target q.operator in
+    let wide = aimed_width from q.level target q.operator in
     elim (cases_Bool (eqb from place)) [
       | inl here ↦ record {
         front = changed ∷ before;
@@ -91,7 +91,7 @@ aimed-aside from place target (q ∷ before) after p h =
         );
       }
       | inr other ↦
-          let rest = aimed-aside next place target before after p
+          let rest = aimed_aside next place target before after p
           (λ e. h (omega (arith, length-append (spelling from q.level q.operator) (text next before)))) in
           record {
             front = q ∷ rest.front;
@@ -107,10 +107,10 @@ aimed-aside from place target (q ∷ before) after p h =
     ]
 
 -- a branch that is aimed leaves the operators at other places only
-pub StandsAmong-aimed : {ps : List Placed} {at level : ℕ} {op : Operator} {next : ℕ} (branch target : ℕ) → at ≢ branch
+pub StandsAmong_aimed : {ps : List Placed} {at level : ℕ} {op : Operator} {next : ℕ} (branch target : ℕ) → at ≢ branch
     → StandsAmong ps at level op next → StandsAmong (aimed_from 0 branch target ps) at level op next
-StandsAmong-aimed {ps} {at} {level} {op} {next} branch target h s =
-    let a = aimed-aside 0 branch target s.before s.after (record { level = level; operator = op }) (λ e. h (omega (arith, s.at_is))) in
+StandsAmong_aimed {ps} {at} {level} {op} {next} branch target h s =
+    let a = aimed_aside 0 branch target s.before s.after (record { level = level; operator = op }) (λ e. h (omega (arith, s.at_is))) in
     record {
       before = a.front;
       after = a.back;
@@ -120,26 +120,26 @@ StandsAmong-aimed {ps} {at} {level} {op} {next} branch target h s =
     }
 
 -- and stands there with its new target
-pub StandsAmong-branch : {ps : List Placed} {at level : ℕ} {kind : BranchKind} {old next : ℕ} (target : ℕ)
+pub StandsAmong_branch : {ps : List Placed} {at level : ℕ} {kind : BranchKind} {old next : ℕ} (target : ℕ)
     → StandsAmong ps at level (Branch kind old) next → StandsAmong (aimed_from 0 at target ps) at level (Branch kind target) next
-StandsAmong-branch {ps} {at} {level} {kind} {old} {next} target s = record {
+StandsAmong_branch {ps} {at} {level} {kind} {old} {next} target s = record {
   before = s.before;
   after = s.after;
   parts = ap (aimed_from 0 at target) s.parts
-      ∙ aimed-at 0 s.before s.after (record { level = level; operator = Branch kind old }) target at (omega (arith, s.at_is));
+      ∙ aimed_at 0 s.before s.after (record { level = level; operator = Branch kind old }) target at (omega (arith, s.at_is));
   at_is = s.at_is;
   next_is = s.next_is;
 }
 
 -- an operator of a segment fits its level
-IsFit-among : {ps : List Placed} {at level : ℕ} {op : Operator} {next : ℕ} → AreFit ps → StandsAmong ps at level op next → IsFit (record { level = level; operator = op })
-IsFit-among {ps} {at} {level} {op} {next} fit s =
-    (AreFit-parts s.before (record { level = level; operator = op }) s.after (subst AreFit s.parts fit)).1
+IsFit_among : {ps : List Placed} {at level : ℕ} {op : Operator} {next : ℕ} → AreFit ps → StandsAmong ps at level op next → IsFit (record { level = level; operator = op })
+IsFit_among {ps} {at} {level} {op} {next} fit s =
+    (AreFit_parts s.before (record { level = level; operator = op }) s.after (subst AreFit s.parts fit)).1
 
 -- an operator stands in the code that spells it
-pub Stands-spelled : {ps : List Placed} {segment : Segment} {at level : ℕ} {op : Operator} {next : ℕ} → Spells ps segment
+pub Stands_spelled : {ps : List Placed} {segment : Segment} {at level : ℕ} {op : Operator} {next : ℕ} → Spells ps segment
     → StandsAmong ps at level op next → OperatorStands (syllables segment.words) at level op next
-Stands-spelled {ps} {segment} {at} {level} {op} {next} sp s =
+Stands_spelled {ps} {segment} {at} {level} {op} {next} sp s =
     let p : Placed = record { level = level; operator = op } in
     let bytes = syllables segment.words in
     let x = text 0 s.before in
@@ -147,7 +147,7 @@ Stands-spelled {ps} {segment} {at} {level} {op} {next} sp s =
     let rest = text (at + length word) s.after in
     let here : 0 + length x ≡ at = omega (arith, s.at_is) in
     let all : bytes ≡ x ++ (word ++ rest) =
-    sp.code ∙ ap (text 0) s.parts ∙ text-append 0 s.before (p ∷ s.after) ∙ ap (λ k. x ++ text k (p ∷ s.after)) here in
+    sp.code ∙ ap (text 0) s.parts ∙ text_append 0 s.before (p ∷ s.after) ∙ ap (λ k. x ++ text k (p ∷ s.after)) here in
     let from_here : drop at bytes ≡ word ++ rest = ap (drop at) all ∙ drop_at x (word ++ rest) at (sym s.at_is) in
     let from_next : drop next bytes ≡ rest =
     ap (drop next) (all ∙ sym (append_assoc x word rest))
@@ -155,17 +155,17 @@ Stands-spelled {ps} {segment} {at} {level} {op} {next} sp s =
     record {
       text = from_here ∙ ap (λ xs. word ++ xs) (sym from_next);
       next_is = s.next_is;
-      fits = (IsFit-among sp.fit s).fits;
+      fits = (IsFit_among sp.fit s).fits;
     }
 
 -- what stands among a segment's operators is fetched there, wherever the segment stands in a code
-pub StandsIn-spelled : {ps : List Placed} {segment : Segment} {at level : ℕ} {op : Operator} {next : ℕ} (code : Code) (number : ℕ)
+pub StandsIn_spelled : {ps : List Placed} {segment : Segment} {at level : ℕ} {op : Operator} {next : ℕ} (code : Code) (number : ℕ)
     → slice_get code.segments number ≡ Some segment → Spells ps segment → StandsAmong ps at level op next
     → StandsIn code (record { segment = number; place = at }) level op next
-StandsIn-spelled {segment = segment} code number there sp s = record { segment = segment; there = there; stands = Stands-spelled sp s }
+StandsIn_spelled {segment = segment} code number there sp s = record { segment = segment; there = there; stands = Stands_spelled sp s }
 
-pub fetched-spelled : {ps : List Placed} {segment : Segment} {at level : ℕ} {op : Operator} {next : ℕ} (code : Code) (number : ℕ)
+pub fetched_spelled : {ps : List Placed} {segment : Segment} {at level : ℕ} {op : Operator} {next : ℕ} (code : Code) (number : ℕ)
     → slice_get code.segments number ≡ Some segment → Spells ps segment → StandsAmong ps at level op next
     → fetched code (record { segment = number; place = at }) level ≡ Ok (op, next)
-fetched-spelled {at = at} {level = level} code number there sp s =
-    ap (λ o. fetched_from o at level) there ∙ decoded-stands (IsFit-among sp.fit s).known (Stands-spelled sp s)
+fetched_spelled {at = at} {level = level} code number there sp s =
+    ap (λ o. fetched_from o at level) there ∙ decoded_stands (IsFit_among sp.fit s).known (Stands_spelled sp s)

@@ -8,7 +8,7 @@ use Rattle.b67_segment.specs.declared.code.Segment.{Segment}
 use Rattle.b67_segment.specs.declared.code.Code.{Code}
 use Rattle.b67_segment.specs.Fetching.{IsPast}
 use Rattle.b67_segment.specs.Decoded.{if_good, found, at_place, AreDecoded}
-use Rattle.b67_segment.proofs.Fetches.{fetched-past}
+use Rattle.b67_segment.proofs.Fetches.{fetched_past}
 
 abbrev pub Places : Type 0
 Places = List (Option (Operator × ℕ))
@@ -32,9 +32,6 @@ at_past [] place h = refl
 at_past (p ∷ places) zero h = absurd (omega (arith, h))
 at_past (p ∷ places) (suc place) h = at_past places place (omega (arith, h))
 
-pub begun_none : (code : Code) (segment level : ℕ) → AreBegun code segment level []
-begun_none code segment level place h = absurd (omega (arith, h))
-
 pub begun_more : (code : Code) (segment level : ℕ) (places : Places) (p : Option (Operator × ℕ)) → AreBegun code segment level places
     → p ≡ found code segment level (length places) → AreBegun code segment level (places ++ p ∷ [])
 begun_more code segment level places p are e place h =
@@ -54,6 +51,6 @@ pub begun_whole : (code : Code) (segment level : ℕ) (places : Places) → AreB
     → IsPast code (record { segment = segment; place = length places }) → AreDecoded code segment level places
 begun_whole code segment level places are past place =
     ⊎_elim (λ (l : place < length places). are place l)
-    (λ (l : length places ≤ place). at_past places place l ∙ sym (ap if_good (fetched-past code (record { segment = segment; place = place }) level
+    (λ (l : length places ≤ place). at_past places place l ∙ sym (ap if_good (fetched_past code (record { segment = segment; place = place }) level
     (past_further (length places) place (slice_get code.segments segment) past l))))
     (cases_lt place (length places))

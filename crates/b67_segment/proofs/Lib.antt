@@ -6,3 +6,4 @@ pub mod Filling
 pub mod Fetches
 pub mod DecodedPlaces
 pub mod Among
+pub mod Cited

@@ -1,25 +1,18 @@
 -- What an entry leads to is determined.
 use Rattle.std.specs.Prelude.{◌&&◌}
-use Rattle.std.proofs.Common.{◌≡◌, refl, sym, ap, subst, ◌∙◌, ℕ, Bool, true, false, true≢false}
-use Rattle.b67_num.specs.declared.FaultKind.{FaultKind}
+use Rattle.std.proofs.Common.{◌≡◌, refl, sym, ap, subst, ◌∙◌, ℕ, Bool, false, true≢false}
 use Rattle.b67_segment.specs.declared.code.Code.{Code}
 use Rattle.b67_table.specs.Image.{Image}
-use Rattle.b67_table.specs.Outcome.{Outcome, gives, faults, limit}
-use Rattle.b67_table.specs.Ending.{failed}
+use Rattle.b67_table.specs.Outcome.{limit}
 use Rattle.b67_table.specs.Table.{table, plain, private_next, is_new}
 use Rattle.b67_table.specs.Runs.{Plains, stay, go, ProcessActs, acts, fails, RunEntry}
-
-given : (x y : Image) → gives x ≡ gives y → x ≡ y
-given x y e = cc
-
-neither : (b : Bool) → (b && false) ≡ false
-neither true = refl
-neither false = refl
+use Rattle.b67_table.proofs.Cited.{differ_fault, differ_limit, fault_limit, gives_same, kept_kind}
+use Rattle.b67_list.proofs.Truths.{and_false}
 
 -- where the table gives no new image the operator is not plain
 pub no_plain : (code : Code) (img : Image) (p : ℕ) → is_new (table code img p) ≡ false → plain code img p ≡ false
 unfolding plain
-no_plain code img p e = ap (λ (x : Bool). private_next code img p && x) e ∙ neither (private_next code img p)
+no_plain code img p e = ap (λ (x : Bool). private_next code img p && x) e ∙ and_false (private_next code img p)
 
 at_limit : (code : Code) (img : Image) (p : ℕ) → table code img p ≡ limit → plain code img p ≡ false
 at_limit code img p e = no_plain code img p (ap is_new e)
@@ -33,22 +26,10 @@ plains_one code p a b c n m stay e stay f = refl
 plains_one code p a b c n m stay e (go h t rest) f = absurd (true≢false (sym h ∙ e))
 plains_one code p a b c n m (go h t rest) e stay f = absurd (true≢false (sym h ∙ f))
 plains_one code p a b c n m (go {b = x} {n = k} h t rest) e (go {b = y} {n = l} i u more) f =
-    plains_one code p x b c k l rest e (subst (λ (z : Image). Plains code p z l c) (given y x (sym u ∙ t)) more) f
-
-kept_kind : (a : Image) (p : ℕ) (o : Outcome Image) (k l : FaultKind) → o ≡ faults k → o ≡ faults l → failed a p k ≡ failed a p l
-kept_kind a p o k l e f = let same : k ≡ l = cc in ap (failed a p) same
-
-differ_fault : (x : Image) (k : FaultKind) (A : Type 0) → gives x ≡ faults k → A
-differ_fault x k A e = cc
-
-differ_limit : (x : Image) (A : Type 0) → gives x ≡ limit → A
-differ_limit x A e = cc
-
-fault_limit : (o : Outcome Image) (k : FaultKind) (A : Type 0) → o ≡ faults k → o ≡ limit → A
-fault_limit o k A e f = cc
+    plains_one code p x b c k l rest e (subst (λ (z : Image). Plains code p z l c) (gives_same y x (sym u ∙ t)) more) f
 
 acts_one : (code : Code) (p : ℕ) (a b c : Image) → ProcessActs code p a b → ProcessActs code p a c → b ≡ c
-acts_one code p a b c (acts e t) (acts f u) = given b c (sym t ∙ u)
+acts_one code p a b c (acts e t) (acts f u) = gives_same b c (sym t ∙ u)
 acts_one code p a b c (acts e t) (fails kind u) = differ_fault b kind _ (sym t ∙ u)
 acts_one code p a b c (fails kind t) (acts f u) = differ_fault c kind _ (sym u ∙ t)
 acts_one code p a b c (fails k t) (fails l u) = kept_kind a p (table code a p) k l t u

@@ -1,24 +1,23 @@
 -- A local entry may come before all others.
-use Rattle.std.proofs.Common.{◌≡◌, ◌≢◌, refl, sym, ap, subst, ◌∙◌, ℕ, ◌+◌, ◌≤◌, Bool, true, List, ◌∷◌, length, Option, Some, None, arith}
+use Rattle.std.proofs.Common.{◌≡◌, ◌≢◌, refl, sym, ap, subst, ◌∙◌, ℕ, ◌+◌, ◌≤◌, true, List, ◌∷◌, length, Option, Some, None, arith}
 use Rattle.std.proofs.lemmas.Option.{none-some}
-use Rattle.b67_list.specs.Numbered.{numbered}
 use Rattle.b67_segment.specs.declared.code.Code.{Code}
 use Rattle.b67_control.specs.declared.Registers.{Registers}
 use Rattle.b67_table.specs.Ending.{may_act, goes_on, image_end, ImageEnd, failed}
-use Rattle.b67_table.specs.Image.{Image, with_private, is_able}
+use Rattle.b67_table.specs.Image.{Image, with_private}
 use Rattle.b67_table.specs.Outcome.{limit}
 use Rattle.b67_table.specs.Private.{floor}
 use Rattle.b67_table.specs.Runs.{Plains, RunEntry, Runs}
 use Rattle.b67_table.specs.Runs as runs
 use Rattle.b67_table.specs.Sound.{Sound}
 use Rattle.b67_table.specs.Table.{table}
+use Rattle.b67_table.proofs.Cited.{may_by, may_parts, number_there}
 use Rattle.b67_settling.specs.Own.{own_of, MovesOwn}
 use Rattle.b67_settling.specs.Local.{NobodyDepends, StacksStayOwn, IsLocal, above_floor, in_stack}
 use Rattle.b67_settling.specs.Settling.{ComesFirst, alone, local, Settles, here, further, Result, ResultIsAt, ImageComesTo, now, entry}
 use Rattle.b67_settling.specs.Settling as settling
 use Rattle.b67_settling.specs.Laws.{PassesLocally, both, ends, StopsThere, LocalEntriesPass, Settled}
 use Rattle.b67_settling.proofs.Stacks.{nobody_still}
-use Rattle.b67_settling.proofs.Tails.{number_of}
 use Rattle.b67_settling.proofs.Determined.{entry_one, no_entry}
 use Rattle.b67_settling.proofs.Passing.{Guards, Comes, comes, T, Is, Passed, passed, limited_there}
 
@@ -102,18 +101,6 @@ module _ (code : Code) (a : Image) (p : ℕ) (o : Owns code a p) where
         enters = λ x at e may. m.enters x at (e ∙ is.same) may;
       })
 
-may_parts : (img : Image) (p : ℕ) → may_act img p ≡ true → (image_end img ≡ None) × (is_able (numbered img.states p) ≡ true)
-unfolding may_act
-may_parts img p e = by_end (image_end img) (is_able (numbered img.states p)) e
-  where
-    by_end : (o : Option ImageEnd) (b : Bool) → goes_on o b ≡ true → (o ≡ None) × (b ≡ true)
-    by_end None b i = (refl, i)
-    by_end (Some x) b i = cc
-
-may_of : (img : Image) (p : ℕ) → image_end img ≡ None → is_able (numbered img.states p) ≡ true → may_act img p ≡ true
-unfolding may_act
-may_of img p e able = ap (λ (o : Option ImageEnd). goes_on o (is_able (numbered img.states p))) e ∙ able
-
 same_end : (x b : Image) (p base : ℕ) (part : _) → b ≡ with_private x p base part → (image_end b ≡ image_end x) × (b.output ≡ x.output)
 unfolding image_end
 same_end x b p base part e = (ap image_end e, ap (λ (i : Image). i.output) e)
@@ -130,13 +117,13 @@ entries_pass : (code : Code) (h counts : List ℕ) (a b c : Image) (p q n k : �
 unfolding T
 entries_pass code h counts a b c p q n k sound run local_there differ e f =
     let o : Owns code a p = owns code a p sound local_there in
-    let t : Passed code p o.r o.base o.moves.part o.moves.stays (own_of a o.r o.base) o.Guarded o.guards q (λ i. differ (sym i)) h counts a run (number_of a q f.may) k c =
-    passed code p o.r o.base o.moves.part o.moves.stays (own_of a o.r o.base) o.Guarded o.guards q (λ i. differ (sym i)) h counts a run (number_of a q f.may) k c
+    let t : Passed code p o.r o.base o.moves.part o.moves.stays (own_of a o.r o.base) o.Guarded o.guards q (λ i. differ (sym i)) h counts a run (number_there a q f.may) k c =
+    passed code p o.r o.base o.moves.part o.moves.stays (own_of a o.r o.base) o.Guarded o.guards q (λ i. differ (sym i)) h counts a run (number_there a q f.may) k c
     (is_now code a p o) f in
     pass_by code p q k b c (with_private c p o.base o.moves.part) (image_end c) refl
     (subst (λ (x : Image). RunEntry code q x k (with_private c p o.base o.moves.part)) (sym (after_is code a p o b n e)) t.its)
     (same_end c (with_private c p o.base o.moves.part) p o.base o.moves.part refl)
-    (λ i. (o.moves.count, o.moves.enters c t.is.reaches t.is.same (may_of c p i (t.able (may_parts a p e.may).1)), local_still code a p o c t.is))
+    (λ i. (o.moves.count, o.moves.enters c t.is.reaches t.is.same (may_by c p i (t.able (may_parts a p e.may).1)), local_still code a p o c t.is))
 
 stops_there : (code : Code) (h counts : List ℕ) (a b quiet : Image) (p q n k : ℕ) → Sound code → Runs code h counts a → IsLocal code a p → p ≢ q
     → RunEntry code p a n b → may_act a q ≡ true → Plains code q a k quiet → table code quiet q ≡ limit → StopsThere code q quiet b
@@ -144,7 +131,7 @@ unfolding T
 stops_there code h counts a b quiet p q n k sound run local_there differ e may plains l =
     let o : Owns code a p = owns code a p sound local_there in
     subst (StopsThere code q quiet) (sym (after_is code a p o b n e))
-    (limited_there code p o.r o.base o.moves.part o.moves.stays (own_of a o.r o.base) o.Guarded o.guards q (λ i. differ (sym i)) h counts a run (number_of a q may) k quiet
+    (limited_there code p o.r o.base o.moves.part o.moves.stays (own_of a o.r o.base) o.Guarded o.guards q (λ i. differ (sym i)) h counts a run (number_there a q may) k quiet
     (is_now code a p o) may plains l)
 
 moved_on : (code : Code) (a b : Image) (p n : ℕ) (r : Registers) (base : ℕ) → MovesOwn code a p r base → RunEntry code p a n b → (image_end b ≡ None) × (b.output ≡ a.output)

@@ -10,7 +10,6 @@ pub mod Stacks
 pub mod Leaving
 pub mod Earlier
 pub mod Coming
-pub mod Keeping
 pub mod Quiet
 pub mod Turning
 pub mod Reading

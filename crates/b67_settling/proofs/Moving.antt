@@ -2,6 +2,7 @@
 use Rattle.std.specs.Prelude.{◌&&◌}
 use Rattle.std.proofs.Common.{◌≡◌, refl, sym, ap, subst, ◌∙◌, ℕ, ◌-◌, ◌≤◌, Bool, true, false, true≢false, List, ◌++◌, length, length-drop, take, drop, reverse, Option, Some, None, Result, cond, arith}
 use Rattle.b67_list.specs.Numbered.{numbered, set_numbered}
+use Rattle.b67_list.proofs.Truths.{both}
 use Rattle.b67_word.specs.Word.{Word}
 use Rattle.b67_control.specs.declared.Registers.{Registers}
 use Rattle.b67_ops.specs.declared.Operator.{Operator}
@@ -127,10 +128,6 @@ pub record Stretched (code : Code) (p : ℕ) (r : Registers) (base : ℕ) (x : I
   pub valid : IsValid code quiet
   pub low : base ≤ floor part.regs
   pub alike : (y : Image) → StackReaches y p r base → own_of y r base ≡ own_of x r base → Plains code p y n (with_private y p base part)
-
-both : (a b : Bool) → a && b ≡ true → a ≡ true
-both true b e = refl
-both false b e = cc
 
 pub stretched : (code : Code) (p : ℕ) (base n : ℕ) (x quiet : Image) (r : Registers) → Plains code p x n quiet → IsValid code x → is_live (numbered x.states p) ≡ true
     → numbered x.regs p ≡ Some r → base ≤ floor r → Stretched code p r base x n quiet

@@ -10,6 +10,7 @@ use Rattle.b67_ops.specs.declared.Operator.{Operator}
 use Rattle.b67_ops.specs.declared.BadCode.{BadCode}
 use Rattle.b67_segment.specs.declared.code.Code.{Code}
 use Rattle.b67_store.specs.Store.{Stacks, stack_at, words_or, words_of}
+use Rattle.b67_store.proofs.StoreLaws.{changed_others}
 use Rattle.b67_table.specs.declared.InterruptKind.{InterruptKind}
 use Rattle.b67_table.specs.declared.InterruptKind.TheVariants.{BadCode as bad_code}
 use Rattle.b67_table.specs.declared.ProcessState.{ProcessState}
@@ -24,7 +25,7 @@ use Rattle.b67_table.specs.Table.{raw, operator_at, by_row, by_operator, by_regi
 use Rattle.b67_table.specs.Touches.{RowTouches, Touches}
 use Rattle.b67_table.specs.Sound.{OperatorTouches}
 use Rattle.b67_table.specs.Parts.{put_into, Beneath, IsApart}
-use Rattle.b67_table.proofs.Stacks.{set_here, set_other, get_numbered_other, numbered_other}
+use Rattle.b67_table.proofs.Stacks.{set_here, get_numbered_other, numbered_other}
 use Rattle.b67_table.proofs.Lists.{numbered_set, numbered_from, above_put}
 use Rattle.b67_table.proofs.Over.{over, elsewhere}
 use Rattle.b67_table.proofs.Parts.{others_stay_apart, program_beneath}
@@ -123,7 +124,7 @@ module _ (code : Code) (q p : ℕ) (r : Registers) (base : ℕ) (part : Private)
     where
       words_same : words_of X.stacks o.stack ≡ words_of img.stacks o.stack
       words_same =
-          ap words_or (set_other img.stacks part.regs.stack o.stack (Some (take base (words_of img.stacks part.regs.stack) ++ reverse part.words))
+          ap words_or (changed_others img.stacks part.regs.stack o.stack (Some (take base (words_of img.stacks part.regs.stack) ++ reverse part.words))
           (λ e. away (e ∙ k.0)))
 
       part_same : private_of X o ≡ private_of img o
@@ -158,7 +159,7 @@ module _ (code : Code) (q p : ℕ) (r : Registers) (base : ℕ) (part : Private)
       after_put mine other =
           let new_words : Option (List Word) = Some (take (floor o) (words_of img.stacks mine.regs.stack) ++ reverse mine.words) in
           let stack_same : stack_at (set img.stacks mine.regs.stack new_words) r.stack ≡ stack_at img.stacks r.stack =
-          set_other img.stacks mine.regs.stack r.stack new_words (λ e. other (sym e)) in
+          changed_others img.stacks mine.regs.stack r.stack new_words (λ e. other (sym e)) in
           record {
             reaches = record {
               live = at.live;

@@ -2,14 +2,17 @@
 use Rattle.std.proofs.Common.{◌≡◌, refl, sym, ap, subst, ◌∙◌, ℕ, zero, suc, ◌-◌, ◌≤◌, List, [], ◌∷◌, ◌++◌, length, take, drop, reverse, set, Some, arith}
 use Rattle.std.proofs.lemmas.List.{take-append-drop, reverse-reverse}
 use Rattle.b67_list.specs.Numbered.{set_numbered}
+use Rattle.b67_list.proofs.Lists.{set_set_here}
+use Rattle.b67_list.proofs.Numbered.{numbered_same}
 use Rattle.b67_word.specs.Word.{Word}
 use Rattle.b67_control.specs.declared.Registers.{Registers}
 use Rattle.b67_store.specs.Store.{Stacks, stack_at, words_or, words_of}
+use Rattle.b67_store.proofs.Cited.{put_there}
 use Rattle.b67_table.specs.declared.Private.{Private}
 use Rattle.b67_table.specs.Private.{floor}
 use Rattle.b67_table.specs.Image.{Image, with_private, private_of}
-use Rattle.b67_table.proofs.Stacks.{set_here, set_set_here}
-use Rattle.b67_table.proofs.Lists.{set_there, numbered_same, numbered_within, numbered_set, numbered_from, above_put}
+use Rattle.b67_table.proofs.Stacks.{set_here}
+use Rattle.b67_table.proofs.Lists.{numbered_within, numbered_set, numbered_from, above_put}
 use Rattle.b67_settling.specs.Own.{StackReaches, own_of}
 
 pub take_put : {X : Type 0} (low high : ℕ) (xs ys : List X) → low ≤ high → high ≤ length xs → take low (take high xs ++ ys) ≡ take low xs
@@ -62,7 +65,7 @@ module _ (img : Image) (p : ℕ) (r : Registers) (base : ℕ) (at : StackReaches
       ap (λ (z : List Word). take base (words_of img.stacks r.stack) ++ z) (reverse-reverse (drop base (words_of img.stacks r.stack)))
       ∙ take-append-drop base (words_of img.stacks r.stack) ∙ ap words_or at.opened in
       ap (λ (ws : List Word). record img { stacks = set img.stacks r.stack (Some ws); regs = set_numbered img.regs p r }) there
-      ∙ ap (λ (s : Stacks). record img { stacks = s; regs = set_numbered img.regs p r }) (set_there img.stacks r.stack at.words at.opened)
+      ∙ ap (λ (s : Stacks). record img { stacks = s; regs = set_numbered img.regs p r }) (put_there img.stacks r.stack at.words at.opened)
       ∙ ap (λ (rs : List Registers). record img { regs = rs }) (numbered_same img.regs p r at.has)
 
   -- the words of the stack then

@@ -3,6 +3,8 @@ use Rattle.std.proofs.Common.{◌≡◌, refl, sym, ap, ◌∙◌, ℕ, zero, su
 use Rattle.std.specs.Prelude.{slice_get}
 use Rattle.std.proofs.lemmas.List.{reverse-reverse}
 use Rattle.b67_list.specs.Numbered.{set_numbered}
+use Rattle.b67_list.proofs.Lists.{set_set_here}
+use Rattle.b67_list.proofs.Numbered.{numbered_twice}
 use Rattle.b67_word.specs.Word.{Word}
 use Rattle.b67_control.specs.declared.Registers.{Registers}
 use Rattle.b67_store.specs.Store.{Stacks, words_or, words_of, with_stack}
@@ -14,7 +16,7 @@ use Rattle.b67_table.specs.Questions as questions
 use Rattle.b67_table.specs.Writes.{Write, write_made}
 use Rattle.b67_table.specs.Writes as writes
 use Rattle.b67_table.specs.Program.{Test, answer, interrupt, fault, ask, asked, Change, done, look_up, write, changed, effect_of, does}
-use Rattle.b67_table.proofs.Stacks.{set_here, set_set_here}
+use Rattle.b67_table.proofs.Stacks.{set_here}
 use Rattle.b67_settling.specs.Own.{StackReaches, own_of, Stay, AsksOwn, ChangeIsOwn, TestIsOwn}
 use Rattle.b67_settling.proofs.Own.{high, unchanged, nothing_off, less_each, drop_drop, reversed_same}
 
@@ -41,10 +43,6 @@ take_above (suc base) zero xs us l h = absurd (omega (arith, l))
 take_above (suc base) (suc n) [] us l h = absurd (omega (arith, h))
 take_above {X = X} (suc base) (suc n) (x ∷ xs) us l h =
     ap (λ (zs : List X). x ∷ zs) (take_above base n xs us (omega (arith, l)) (omega (arith, h))) ∙ ap (λ (m : ℕ). x ∷ take base xs ++ take m us) (sym (less_each n base))
-
-again : {X : Type 0} (xs : List X) (n : ℕ) (a b : X) → set_numbered (set_numbered xs n a) n b ≡ set_numbered xs n b
-again xs zero a b = refl
-again xs (suc n) a b = set_set_here xs n a b
 
 -- ---- what is asked
 
@@ -157,7 +155,7 @@ module _ (img : Image) (p : ℕ) (r : Registers) (base : ℕ) (at : StackReaches
   registers_in : (us : List Word) (s new : Registers) → write_made p (writes.registers new) (put_in us s) ≡ put_in us new
   unfolding put_in
   registers_in us s new =
-      ap (λ (rs : List Registers). record img { stacks = with_stack img.stacks r.stack (take base (words_of img.stacks r.stack) ++ us); regs = rs }) (again img.regs p s new)
+      ap (λ (rs : List Registers). record img { stacks = with_stack img.stacks r.stack (take base (words_of img.stacks r.stack) ++ us); regs = rs }) (numbered_twice img.regs p s new)
 
   changed_in : (c : Change) (us : List Word) (s : Registers) → ChangeIsOwn r base c → changed p c (put_in us s) ≡ put_in (after_words base c us) (after_regs c s)
   changed_in done us s own = refl

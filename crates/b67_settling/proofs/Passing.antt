@@ -20,12 +20,13 @@ use Rattle.b67_table.specs.Sound.{OperatorTouches}
 use Rattle.b67_table.specs.Table.{raw, table, plain, private_in, private_next, is_new, stack_length, length_in}
 use Rattle.b67_table.proofs.Limit.{new_of}
 use Rattle.b67_table.proofs.Stacks.{get_numbered_other}
+use Rattle.b67_table.proofs.Cited.{number_there}
 use Rattle.b67_settling.specs.Own.{StackReaches, own_of, Stay}
 use Rattle.b67_settling.specs.Laws.{StopsThere}
 use Rattle.b67_settling.specs.Settling.{Result, ResultIsAt, ends, stops, ImageComesTo, now, entry as then_entry}
 use Rattle.b67_settling.proofs.Others.{Left, Apart, raw_apart, X, Apartly}
 use Rattle.b67_settling.proofs.Moving.{may_still}
-use Rattle.b67_settling.proofs.Tails.{IsRun, is_run, one_more, number_of}
+use Rattle.b67_settling.proofs.Tails.{IsRun, is_run, one_more}
 use Rattle.b67_settling.proofs.Determined.{entry_one, no_entry}
 
 put_outcome : ℕ → ℕ → Private → Outcome Image → Outcome Image
@@ -208,7 +209,7 @@ module _ (code : Code) (p : ℕ) (r : Registers) (base : ℕ) (part : Private) (
     at_end hist counts x o run is (stops {p = q} {n = n} {quiet = quiet} may plains l) = by_process (ℕ_discrete q p)
       where
         by_process : Dec (q ≡ p) → ResultIsAt code (T x) (Result.limited x.output q (length_in (numbered quiet.regs q)))
-        by_process (no h) = stopped q h hist counts x run (number_of x q may) n quiet is may plains l
+        by_process (no h) = stopped q h hist counts x run (number_there x q may) n quiet is may plains l
         by_process (yes e) =
             no_entry code q x quiet (T x) n count _ plains l
             (subst (λ (m : ℕ). RunEntry code m x count (T x)) (sym e) (its_own x is (subst (λ (m : ℕ). may_act x m ≡ true) e may)))
@@ -224,6 +225,6 @@ module _ (code : Code) (p : ℕ) (r : Registers) (base : ℕ) (part : Private) (
             let same : b ≡ T x = entry_one code p x b (T x) n count its (its_own x is its.may) in
             record { entries = rest; few = omega arith; comes_so = subst (λ (z : Image). ImageComesTo code o z rest) same more }
         by_process (no h) on =
-            let t : Passed q h hist counts x run (number_of x q e.may) n b = passed q h hist counts x run (number_of x q e.may) n b is e in
+            let t : Passed q h hist counts x run (number_there x q e.may) n b = passed q h hist counts x run (number_there x q e.may) n b is e in
             let c : Comes o (T b) rest = on t.is in
             record { entries = q ∷ c.entries; few = omega (arith, c.few); comes_so = then_entry t.its c.comes_so }

@@ -8,10 +8,8 @@ use Rattle.b67_control.specs.declared.Registers.{Registers}
 use Rattle.b67_control.specs.declared.Pcw.{Pcw}
 use Rattle.b67_control.specs.declared.Descriptor.{Descriptor}
 use Rattle.b67_control.specs.declared.Sirw.{Sirw}
-use Rattle.b67_control.specs.Kind as kind
 use Rattle.b67_control.specs.Control.{as_sirw, as_pcw}
-use Rattle.b67_control.specs.Kind.{kind_of}
-use Rattle.b67_control.proofs.ControlLaws.{as_sirw-other, as_pcw-other}
+use Rattle.b67_control.proofs.ControlLaws.{as_sirw_other, as_pcw_other, tag_zero}
 use Rattle.b67_ops.specs.declared.Couple.{Couple}
 use Rattle.b67_ops.specs.declared.Operator.TheVariants as ops
 use Rattle.b67_segment.specs.declared.code.Code.{Code}
@@ -44,15 +42,11 @@ use Rattle.b67_settling.proofs.Turning.{stack_entries_are_local, top_is, second_
 
 -- ---- operands
 
-is_operand : (w : Word) → w.tag ≡ 0 → kind_of w ≡ kind.operand
-unfolding kind_of
-is_operand w e = rw e refl
-
 no_sirw : (w : Word) → w.tag ≡ 0 → as_sirw w ≡ None
-no_sirw w e = as_sirw-other w (λ k. let is = sym (is_operand w e) ∙ k in cc)
+no_sirw w e = as_sirw_other w (λ k. let is = sym (tag_zero w e) ∙ k in cc)
 
 no_pcw : (w : Word) → w.tag ≡ 0 → as_pcw w ≡ None
-no_pcw w e = as_pcw-other w (λ k. let is = sym (is_operand w e) ∙ k in cc)
+no_pcw w e = as_pcw_other w (λ k. let is = sym (tag_zero w e) ∙ k in cc)
 
 -- an operand in a cell of this stack, at the base or above
 record IsThere (img : Image) (r : Registers) (base : ℕ) (c : Cell) : Type 0 where
@@ -113,9 +107,6 @@ module _ (img : Image) (r : Registers) (base next : ℕ) (keeps : Bool) (x y : W
   abbrev stored_on : Two → Program
   stored_on t = see (operand_in t.x) >>= (λ (v : Word). store_by keeps r next v t.y (as_indexed t.y))
 
-  abbrev with_two : Word → Program
-  with_two v = see (from_top r 1 >-> (λ (w : Word). found (record { x = v; y = w }))) >>= stored_on
-
   abbrev change : Change
   change = stored keeps r next x (save (cell_place c) x)
 
@@ -149,9 +140,6 @@ module _ (img : Image) (r : Registers) (base next : ℕ) (keeps : Bool) (x y : W
           subst (λ (o : Option Word). TestIsOwn img r base (see (valid o >-> (λ (w : Word). found (record { x = x; y = w }))) >>= stored_on)) (sym y_there) two_own,
         ),
       )
-
-  regs_after : Registers
-  regs_after = record r { s = r.s - 2 + kept_words keeps; place = next }
 
   store_asked : asked img (store keeps r next) ≡ gives (stored keeps r next x (save (cell_place c) x))
   store_asked =

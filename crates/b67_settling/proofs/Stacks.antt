@@ -32,6 +32,7 @@ use Rattle.b67_table.proofs.Limit.{new_of}
 use Rattle.b67_table.proofs.Lists.{numbered_set, numbered_from, numbered_within}
 use Rattle.b67_table.proofs.Privacy.{Put, put_by}
 use Rattle.b67_table.proofs.Stacks.{get_numbered_other, get_numbered_append}
+use Rattle.b67_table.proofs.Cited.{some_same}
 use Rattle.b67_settling.specs.Local.{NobodyDepends}
 use Rattle.b67_settling.proofs.Criticals.{Calm, Begins, Lies, own_stack, under, Says, RowFine, row_fine}
 
@@ -55,9 +56,6 @@ record Kept (img : Image) (r : Registers) (extra : ℕ) (now : Image) : Type 0 w
   many : length now.regs ≡ length img.regs + extra
   started : now.started ≡ img.started + extra
   each : (k : ℕ) (o : Registers) → numbered now.regs k ≡ Some o → Old img k o ⊎ New img r k o
-
-some_is : (x y : Registers) → Some x ≡ Some y → x ≡ y
-some_is x y e = cc
 
 module _ (img : Image) (q : ℕ) (r : Registers) (has : numbered img.regs q ≡ Some r) where
   here : Kept img r 0 img
@@ -84,7 +82,7 @@ module _ (img : Image) (q : ℕ) (r : Registers) (has : numbered img.regs q ≡ 
       by_process n o e (no h) = k.each n o (sym (get_numbered_other now.regs q n new h) ∙ e)
       by_process n o e (yes i) =
           let same : new ≡ o =
-          some_is new o (sym (numbered_set now.regs q new (numbered_from img.regs q r has) inside) ∙ ap (λ (m : ℕ). numbered (set_numbered now.regs q new) m) (sym i) ∙ e) in
+          some_same new o (sym (numbered_set now.regs q new (numbered_from img.regs q r has) inside) ∙ ap (λ (m : ℕ). numbered (set_numbered now.regs q new) m) (sym i) ∙ e) in
           inl (record {
             before = r;
             was = ap (numbered img.regs) i ∙ has;
@@ -134,7 +132,7 @@ module _ (img : Image) (q : ℕ) (r : Registers) (has : numbered img.regs q ≡ 
       }
     where
       last : (rs : List Registers) (n : ℕ) (o : Registers) → length rs ≤ n → slice_get (rs ++ new ∷ []) n ≡ Some o → (n ≡ length rs) × (new ≡ o)
-      last [] zero o h e = (refl, some_is new o e)
+      last [] zero o h e = (refl, some_same new o e)
       last [] (suc n) o h e = cc
       last (x ∷ rs) zero o h e = absurd (omega (arith, h))
       last (x ∷ rs) (suc n) o h e = let l = last rs n o (omega (arith, h)) e in (ap suc l.0, l.1)
@@ -259,7 +257,7 @@ first_own = record { many = refl; each = by_number }
   where
     by_number : (k : ℕ) (o : Registers) → numbered first_image.regs k ≡ Some o → o.stack ≡ k
     by_number zero o e = cc
-    by_number (suc zero) o e = ap (λ (x : Registers). x.stack) (sym (some_is _ o e))
+    by_number (suc zero) o e = ap (λ (x : Registers). x.stack) (sym (some_same _ o e))
     by_number (suc (suc k)) o e = cc
 
 own_runs : (code : Code) (h counts : List ℕ) (a : Image) → Runs code h counts a → AreOwn a

@@ -1,7 +1,6 @@
 -- Plain operators of a process after a run are tails of it.
-use Rattle.std.proofs.Common.{◌≡◌, refl, sym, subst, ◌∙◌, ℕ, zero, suc, ◌+◌, ◌-◌, ◌≤◌, true, false, true≢false, List, [], ◌∷◌, ◌++◌, reverse, replicate, Option, Some, None, arith}
+use Rattle.std.proofs.Common.{◌≡◌, refl, subst, ℕ, zero, suc, ◌+◌, ◌-◌, ◌≤◌, true, List, [], ◌∷◌, ◌++◌, reverse, replicate, arith}
 use Rattle.b67_segment.specs.declared.code.Code.{Code}
-use Rattle.b67_table.specs.Ending.{may_act, goes_on, image_end, ImageEnd}
 use Rattle.b67_table.specs.Image.{Image}
 use Rattle.b67_table.specs.Outcome.{gives}
 use Rattle.b67_table.specs.Runs.{Plains, stay, go, Runs, Tails, TableRun}
@@ -46,13 +45,3 @@ is_run code h counts q n a b r one p =
 pub one_more : (code : Code) (q n : ℕ) (a b c : Image) → Plains code q a n b → plain code b q ≡ true → table code b q ≡ gives c → Plains code q a (n + 1) c
 one_more code q n a b c stay e t = go e t stay
 one_more code q n a b c (go {b = x} {n = k} f u more) e t = go f u (one_more code q k x b c more e t)
-
--- a process that may act has a number
-pub number_of : (img : Image) (p : ℕ) → may_act img p ≡ true → 1 ≤ p
-unfolding may_act
-number_of img zero e = absurd (true≢false (sym e ∙ never (image_end img)))
-  where
-    never : (o : Option ImageEnd) → goes_on o false ≡ false
-    never None = refl
-    never (Some x) = refl
-number_of img (suc p) e = omega arith

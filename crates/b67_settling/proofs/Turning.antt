@@ -19,7 +19,7 @@ use Rattle.b67_table.specs.Image.{Image, private_of, with_private}
 use Rattle.b67_table.specs.Look.{found, stops, ◌>->◌, valid}
 use Rattle.b67_table.specs.Private.{floor}
 use Rattle.b67_table.specs.PrivateRows.{is_taken, branch}
-use Rattle.b67_table.specs.Program.{Test, answer, ◌>>=◌, see, asked, changed, Change, registers, done}
+use Rattle.b67_table.specs.Program.{answer, ◌>>=◌, see, asked, changed, registers, done}
 use Rattle.b67_table.specs.Moves as moves_of
 use Rattle.b67_table.specs.References.{from_top, operand_in, invalid}
 use Rattle.b67_table.specs.Rows.{private_part, acts, row, branch_turn, turn_by}
@@ -43,12 +43,6 @@ stack_entries_are_local code a p r stay_own own o = in_stack r stay_own own (mov
 -- ---- what such a branch touches
 
 module _ (img : Image) (r : Registers) (base next : ℕ) (low : base ≤ floor r) where
-  goes : (kind : BranchKind) (target : ℕ) → Word → Test Change
-  goes kind target w = answer (moves_of.dropped r (if_taken (is_taken kind w.bits)) 1)
-    where
-      if_taken : Bool → ℕ
-      if_taken b = cond b target next
-
   operand_own : (kind : BranchKind) (target : ℕ) → base ≤ r.s - 1 → (w : Word) (b : Bool)
       → TestIsOwn img r base (see (cond b (found w) invalid) >>= (λ (v : Word). answer (moves_of.dropped r (cond (is_taken kind v.bits) target next) 1)))
   operand_own kind target high w true = ((refl, high), ((refl, refl), tt))

@@ -25,49 +25,49 @@ use Rattle.b67_standing.proofs.Leading.{on, valued_at}
 use Rattle.b67_standing.proofs.Values.{variable_refers, own_names}
 
 -- one value more lies on top
-pub operands-more : (vs : List Value) (v : Value) (below : List Slot) → operands (vs ++ v ∷ []) below ≡ operand v ∷ operands vs below
-operands-more [] v below = refl
-operands-more (x ∷ vs) v below = operands-more vs v (operand x ∷ below)
+pub operands_more : (vs : List Value) (v : Value) (below : List Slot) → operands (vs ++ v ∷ []) below ≡ operand v ∷ operands vs below
+operands_more [] v below = refl
+operands_more (x ∷ vs) v below = operands_more vs v (operand x ∷ below)
 
-pub operands-length : (vs : List Value) (below : List Slot) → length (operands vs below) ≡ length vs + length below
-operands-length [] below = omega arith
-operands-length (v ∷ vs) below = omega (arith, operands-length vs (operand v ∷ below))
+pub operands_length : (vs : List Value) (below : List Slot) → length (operands vs below) ≡ length vs + length below
+operands_length [] below = omega arith
+operands_length (v ∷ vs) below = omega (arith, operands_length vs (operand v ∷ below))
 
 -- ---- actuals that are done
 
 -- each is a word at most
-pub given_slots-length : (wanted : List Wanted) (gs : List Given) (below : List Slot) → length (given_slots wanted gs below) ≤ length gs + length below
-given_slots-length [] gs below = omega arith
-given_slots-length (w ∷ wanted) [] below = omega arith
-given_slots-length (w ∷ wanted) (g ∷ gs) below = omega (arith, given_slots-length wanted gs (given_slot w g ∷ below))
+pub given_slots_length : (wanted : List Wanted) (gs : List Given) (below : List Slot) → length (given_slots wanted gs below) ≤ length gs + length below
+given_slots_length [] gs below = omega arith
+given_slots_length (w ∷ wanted) [] below = omega arith
+given_slots_length (w ∷ wanted) (g ∷ gs) below = omega (arith, given_slots_length wanted gs (given_slot w g ∷ below))
 
 -- none is taken away
-pub given_slots-above : (wanted : List Wanted) (gs : List Given) (below : List Slot) → length below ≤ length (given_slots wanted gs below)
-given_slots-above [] gs below = omega arith
-given_slots-above (w ∷ wanted) [] below = omega arith
-given_slots-above (w ∷ wanted) (g ∷ gs) below = omega (arith, given_slots-above wanted gs (given_slot w g ∷ below))
+pub given_slots_above : (wanted : List Wanted) (gs : List Given) (below : List Slot) → length below ≤ length (given_slots wanted gs below)
+given_slots_above [] gs below = omega arith
+given_slots_above (w ∷ wanted) [] below = omega arith
+given_slots_above (w ∷ wanted) (g ∷ gs) below = omega (arith, given_slots_above wanted gs (given_slot w g ∷ below))
 
 -- one actual more lies on top
-given_slots-more : (wanted : List Wanted) (gs : List Given) (w : Wanted) (g : Given) (below : List Slot) → length wanted ≡ length gs →
+given_slots_more : (wanted : List Wanted) (gs : List Given) (w : Wanted) (g : Given) (below : List Slot) → length wanted ≡ length gs →
     given_slots (wanted ++ w ∷ []) (gs ++ g ∷ []) below ≡ given_slot w g ∷ given_slots wanted gs below
-given_slots-more [] [] w g below e = refl
-given_slots-more (x ∷ wanted) (h ∷ gs) w g below e = given_slots-more wanted gs w g (given_slot x h ∷ below) (omega (arith, e))
-given_slots-more [] (h ∷ gs) w g below e = absurd (omega (arith, e))
-given_slots-more (x ∷ wanted) [] w g below e = absurd (omega (arith, e))
+given_slots_more [] [] w g below e = refl
+given_slots_more (x ∷ wanted) (h ∷ gs) w g below e = given_slots_more wanted gs w g (given_slot x h ∷ below) (omega (arith, e))
+given_slots_more [] (h ∷ gs) w g below e = absurd (omega (arith, e))
+given_slots_more (x ∷ wanted) [] w g below e = absurd (omega (arith, e))
 
 module _ (sc : Scopes) (context : Context) where
-  given-length : (wanted : List Wanted) (gs : List Given) → ActualsAreGiven sc context wanted gs → length wanted ≡ length gs
-  given-length [] [] h = refl
-  given-length (w ∷ wanted) (g ∷ gs) h = omega (arith, given-length wanted gs h.1)
-  given-length [] (g ∷ gs) h = absurd h
-  given-length (w ∷ wanted) [] h = absurd h
+  given_length : (wanted : List Wanted) (gs : List Given) → ActualsAreGiven sc context wanted gs → length wanted ≡ length gs
+  given_length [] [] h = refl
+  given_length (w ∷ wanted) (g ∷ gs) h = omega (arith, given_length wanted gs h.1)
+  given_length [] (g ∷ gs) h = absurd h
+  given_length (w ∷ wanted) [] h = absurd h
 
-  given-more : (wanted : List Wanted) (gs : List Given) (w : Wanted) (g : Given) → ActualsAreGiven sc context wanted gs → ActualsAreGiven sc context (w ∷ []) (g ∷ []) →
+  given_more : (wanted : List Wanted) (gs : List Given) (w : Wanted) (g : Given) → ActualsAreGiven sc context wanted gs → ActualsAreGiven sc context (w ∷ []) (g ∷ []) →
       ActualsAreGiven sc context (wanted ++ w ∷ []) (gs ++ g ∷ [])
-  given-more [] [] w g h one = one
-  given-more (x ∷ wanted) (y ∷ gs) w g h one = (h.0, given-more wanted gs w g h.1 one)
-  given-more [] (y ∷ gs) w g h one = absurd h
-  given-more (x ∷ wanted) [] w g h one = absurd h
+  given_more [] [] w g h one = one
+  given_more (x ∷ wanted) (y ∷ gs) w g h one = (h.0, given_more wanted gs w g h.1 one)
+  given_more [] (y ∷ gs) w g h one = absurd h
+  given_more (x ∷ wanted) [] w g h one = absurd h
 
 module _ (sc : Scopes) (context : Context) (ps : List Placed) (level most : ℕ) where
   -- ---- actuals that are evaluated
@@ -113,8 +113,8 @@ module _ (sc : Scopes) (context : Context) (ps : List Placed) (level most : ℕ)
       let hs = gs ++ g ∷ [] in
       let longer : length hs ≡ length gs + 1 = length-append gs (g ∷ []) in
       subst (λ o. ComesFilled all (settle_actuals sc es sorts hs) m o begun filled)
-      (given_slots-more before gs wanted g begun (given-length sc context before gs a.fit))
-      (c hs (before ++ wanted ∷ []) (a.wants_are ∙ sym (append_assoc before (wanted ∷ []) after)) (given-more sc context before gs wanted g a.fit fits) (omega (arith, a.room, longer)))
+      (given_slots_more before gs wanted g begun (given_length sc context before gs a.fit))
+      (c hs (before ++ wanted ∷ []) (a.wants_are ∙ sym (append_assoc before (wanted ∷ []) after)) (given_more sc context before gs wanted g a.fit fits) (omega (arith, a.room, longer)))
 
   -- an actual by value
   pub actual_stands : (all : List Wanted) (gs : List Given) (before : List Wanted) (kind : Kind) (after : List Wanted) (sorts : List Sort) (es : PExprs)
@@ -142,14 +142,14 @@ module _ (sc : Scopes) (context : Context) (ps : List Placed) (level most : ℕ)
   array_stands all gs before shape after sorts es f m filled begun x a (code.refers d c q i agrees name stuffs) go =
       let floor = given_slots before gs begun in
       let settled : Sort → HalfGiven = λ s. alone_of (procedure_in s) (is_formal s) gs x sorts es (settle_actuals sc es sorts) in
-      let pushes = push_reference c name (omega (arith, a.room, given_slots-length before gs begun)) in
+      let pushes = push_reference c name (omega (arith, a.room, given_slots_length before gs begun)) in
       subst (λ s. ComesFilled all (settled s) f floor begun filled) (sym i.sort_is)
       (after_filled all (settle_actuals sc es sorts (gs ++ refers x ∷ [])) begun filled (first pushes (first (stuff (cell_named x) c (of_array x d c i) name stuffs) there))
       (actual_done all gs before (wants.array shape) after sorts es m filled begun (refers x) a ((d, c, i, agrees), tt) go))
   array_stands all gs before shape after sorts es f m filled begun x a (code.passes actual c q i agrees name loads) go =
       let floor = given_slots before gs begun in
       let settled : Sort → HalfGiven = λ s. alone_of (procedure_in s) (is_formal s) gs x sorts es (settle_actuals sc es sorts) in
-      let pushes = push_reference c name (omega (arith, a.room, given_slots-length before gs begun)) in
+      let pushes = push_reference c name (omega (arith, a.room, given_slots_length before gs begun)) in
       subst (λ s. ComesFilled all (settled s) f floor begun filled) (sym i.sort_is)
       (record {
         at = q;
@@ -167,14 +167,14 @@ module _ (sc : Scopes) (context : Context) (ps : List Placed) (level most : ℕ)
   event_stands all gs before after sorts es f m filled begun x a (events.refers c q i name stuffs) go =
       let floor = given_slots before gs begun in
       let settled : Sort → HalfGiven = λ s. alone_of (procedure_in s) (is_formal s) gs x sorts es (settle_actuals sc es sorts) in
-      let pushes = push_reference c name (omega (arith, a.room, given_slots-length before gs begun)) in
+      let pushes = push_reference c name (omega (arith, a.room, given_slots_length before gs begun)) in
       subst (λ s. ComesFilled all (settled s) f floor begun filled) (sym i.sort_is)
       (after_filled all (settle_actuals sc es sorts (gs ++ refers x ∷ [])) begun filled (first pushes (first (stuff (cell_named x) c (of_event x c i) name stuffs) there))
       (actual_done all gs before wants.event after sorts es m filled begun (refers x) a ((c, i), tt) go))
   event_stands all gs before after sorts es f m filled begun x a (events.passes c q i name loads) go =
       let floor = given_slots before gs begun in
       let settled : Sort → HalfGiven = λ s. alone_of (procedure_in s) (is_formal s) gs x sorts es (settle_actuals sc es sorts) in
-      let pushes = push_reference c name (omega (arith, a.room, given_slots-length before gs begun)) in
+      let pushes = push_reference c name (omega (arith, a.room, given_slots_length before gs begun)) in
       subst (λ s. ComesFilled all (settled s) f floor begun filled) (sym i.sort_is)
       (record {
         at = q;
@@ -190,7 +190,7 @@ module _ (sc : Scopes) (context : Context) (ps : List Placed) (level most : ℕ)
       ComesFilled all (other_of sc (name_alone e) e gs sorts es (settle_actuals sc es sorts)) f (given_slots before gs begun) begun filled
   name_stands all gs before kind after sorts es f m filled begun e a (code.refers_to x c q same i outer name stuffs) go =
       let floor = given_slots before gs begun in
-      let pushes = push_reference c name (omega (arith, a.room, given_slots-length before gs begun)) in
+      let pushes = push_reference c name (omega (arith, a.room, given_slots_length before gs begun)) in
       subst (λ (y : PExpr). ComesFilled all (other_of sc (name_alone y) y gs sorts es (settle_actuals sc es sorts)) f floor begun filled) (sym same)
       (subst (λ s. ComesFilled all s f floor begun filled) (sym (variable_refers (sort_at sc x) gs x sorts es (settle_actuals sc es sorts) i.variable))
       (after_filled all (settle_actuals sc es sorts (gs ++ refers x ∷ [])) begun filled
@@ -199,7 +199,7 @@ module _ (sc : Scopes) (context : Context) (ps : List Placed) (level most : ℕ)
   name_stands all gs before kind after sorts es f m filled begun e a (code.passes_on x c q same i name loads) go =
       let floor = given_slots before gs begun in
       let settled : Sort → HalfGiven = λ s. alone_of (procedure_in s) (is_formal s) gs x sorts es (settle_actuals sc es sorts) in
-      let pushes = push_reference c name (omega (arith, a.room, given_slots-length before gs begun)) in
+      let pushes = push_reference c name (omega (arith, a.room, given_slots_length before gs begun)) in
       subst (λ (y : PExpr). ComesFilled all (other_of sc (name_alone y) y gs sorts es (settle_actuals sc es sorts)) f floor begun filled) (sym same)
       (subst (λ s. ComesFilled all (settled s) f floor begun filled) (sym i.sort_is)
       (record {
@@ -210,7 +210,7 @@ module _ (sc : Scopes) (context : Context) (ps : List Placed) (level most : ℕ)
       }))
   name_stands all gs before kind after sorts es f m filled begun e a (code.names c q i name stuffs) go =
       let floor = given_slots before gs begun in
-      let pushes = push_reference c name (omega (arith, a.room, given_slots-length before gs begun)) in
+      let pushes = push_reference c name (omega (arith, a.room, given_slots_length before gs begun)) in
       subst (λ s. ComesFilled all s f floor begun filled) (sym (own_names sc e kind gs sorts es (settle_actuals sc es sorts) i.own))
       (after_filled all (settle_actuals sc es sorts (gs ++ rests.names e ∷ [])) begun filled
       (first pushes (first (stuff (actual_held e kind) c (of_actual e kind c i) name stuffs) there))

@@ -23,24 +23,24 @@ use Rattle.b67_templates.specs.Code.{AreDimensions, HasNoCounts, BoundsAt, Array
 use Rattle.b67_templates.specs.Depths.{depth, bounds_depth, arrays_depth}
 use Rattle.b67_standing.specs.Stepping.{Slot, operand, intrinsic, mark, SlotsHaveRoom, push_number, call, there, first}
 use Rattle.b67_standing.specs.Standing.{pend, AreNumbers, arrays_begun, extents, AreWholeLows, SlotsFollow, Shows, ComesTo}
-use Rattle.b67_standing.proofs.Leading.{depth-positive, pend-none}
+use Rattle.b67_standing.proofs.Leading.{depth_positive, pend_none}
 use Rattle.b67_standing.proofs.Asking.{arrays_ask, event_asks}
 use Rattle.b67_standing.proofs.Settling.{settle_at}
-use Rattle.b67_standing.proofs.Rests.{are_numbers-more, after_rest, stays_here, heads_ask, value_at}
+use Rattle.b67_standing.proofs.Rests.{are_numbers_more, after_rest, stays_here, heads_ask, value_at}
 
 -- one pair more lies on top
-extents-more : (before : List PPair) (p : PPair) (vs : List Value) (v : Value) (below : List Slot) → length vs ≡ length before →
+extents_more : (before : List PPair) (p : PPair) (vs : List Value) (v : Value) (below : List Slot) → length vs ≡ length before →
     extents (before ++ p ∷ []) (vs ++ v ∷ []) below ≡ operand v ∷ operand (number p.low) ∷ extents before vs below
-extents-more [] p [] v below e = refl
-extents-more (q ∷ before) p (w ∷ vs) v below e = extents-more before p vs v (operand w ∷ operand (number q.low) ∷ below) (omega (arith, e))
-extents-more [] p (w ∷ vs) v below e = absurd (omega (arith, e))
-extents-more (q ∷ before) p [] v below e = absurd (omega (arith, e))
+extents_more [] p [] v below e = refl
+extents_more (q ∷ before) p (w ∷ vs) v below e = extents_more before p vs v (operand w ∷ operand (number q.low) ∷ below) (omega (arith, e))
+extents_more [] p (w ∷ vs) v below e = absurd (omega (arith, e))
+extents_more (q ∷ before) p [] v below e = absurd (omega (arith, e))
 
-extents-length : (before : List PPair) (vs : List Value) (below : List Slot) → length vs ≡ length before → length (extents before vs below) ≡ 2 * length vs + length below
-extents-length [] [] below e = omega arith
-extents-length (q ∷ before) (w ∷ vs) below e = omega (arith, extents-length before vs (operand w ∷ operand (number q.low) ∷ below) (omega (arith, e)))
-extents-length [] (w ∷ vs) below e = absurd (omega (arith, e))
-extents-length (q ∷ before) [] below e = absurd (omega (arith, e))
+extents_length : (before : List PPair) (vs : List Value) (below : List Slot) → length vs ≡ length before → length (extents before vs below) ≡ 2 * length vs + length below
+extents_length [] [] below e = omega arith
+extents_length (q ∷ before) (w ∷ vs) below e = omega (arith, extents_length before vs (operand w ∷ operand (number q.low) ∷ below) (omega (arith, e)))
+extents_length [] (w ∷ vs) below e = absurd (omega (arith, e))
+extents_length (q ∷ before) [] below e = absurd (omega (arith, e))
 
 module _ (sc : Scopes) (context : Context) (ps : List Placed) (level most : ℕ) where
   abbrev Coming : Rest → ℕ → List Slot → Type 0
@@ -80,8 +80,8 @@ module _ (sc : Scopes) (context : Context) (ps : List Placed) (level most : ℕ)
       let longer : length us ≡ length vs + 1 = length-append vs (v ∷ []) in
       let more : length (before ++ p ∷ []) ≡ length before + 1 = length-append before (p ∷ []) in
       after_rest sc context ps level most (value_at sc context ps level most pc slots v (operand (number p.low) ∷ extents before vs begun) m sh.0 sh.1)
-      (subst (λ y. Coming (settle_bounds sc later kind ns pairs k us) m y) (extents-more before p vs v begun same)
-      (c (before ++ p ∷ []) us (e ∙ sym (append_assoc before (p ∷ []) later)) (omega (arith, longer, more, same)) (are_numbers-more vs v fits sh.2) (omega (arith, room, longer))))
+      (subst (λ y. Coming (settle_bounds sc later kind ns pairs k us) m y) (extents_more before p vs v begun same)
+      (c (before ++ p ∷ []) us (e ∙ sym (append_assoc before (p ∷ []) later)) (omega (arith, longer, more, same)) (are_numbers_more vs v fits sh.2) (omega (arith, room, longer))))
   bound_stands kind ns pairs k before p later vs (busy h) pc slots m b o e same fits sh l room c =
       stays_here sc context ps level most pc slots (rests.bounding kind ns pairs vs h later k)
       (heads_ask sc context ps level most types.Number h pc slots (operand (number p.low) ∷ extents before vs (arrays_begun (length ns) [])) m sh)
@@ -112,8 +112,8 @@ module _ (sc : Scopes) (context : Context) (ps : List Placed) (level most : ℕ)
       )
   bounds_at (p ∷ later) kind ns pairs k m b o l before vs e same fits room =
       let floor = extents before vs (arrays_begun (length ns) []) in
-      let size : length floor ≡ 2 * length vs + 3 = extents-length before vs (arrays_begun (length ns) []) same in
-      let deep : 1 ≤ depth p.high = depth-positive p.high in
+      let size : length floor ≡ 2 * length vs + 3 = extents_length before vs (arrays_begun (length ns) []) same in
+      let deep : 1 ≤ depth p.high = depth_positive p.high in
       let d = settle_at sc context ps level most types.Number p.high l.0 l.1 l.1 l.3 stop (operand (number p.low) ∷ floor) (omega (arith, room, size)) in
       after_rest sc context ps level most (first (push_number p.low l.2 (omega (arith, room, size, deep))) d.leads)
       (bound_stands kind ns pairs k before p later vs (settle sc p.high) d.at d.with_slots l.1 b o e same fits d.shows l.4 (omega (arith, room, deep))
@@ -135,7 +135,7 @@ module _ (sc : Scopes) (context : Context) (ps : List Placed) (level most : ℕ)
         follows = follows;
         some = h.some;
       } in
-      subst (λ y. Coming (settle_bounds sc pairs kind ns pairs k []) f y) (sym (pend-none k none))
+      subst (λ y. Coming (settle_bounds sc pairs kind ns pairs k []) f y) (sym (pend_none k none))
       (after_rest sc context ps level most
       (first (call Arrays h.intrinsic (omega (arith, room))) (first (push_number (pos (length ns)) h.number (omega (arith, room))) there))
       (bounds_at pairs kind ns pairs k h.numbered h.bounded o h.bounds [] [] refl refl tt (omega (arith, room))))
@@ -144,7 +144,7 @@ module _ (sc : Scopes) (context : Context) (ps : List Placed) (level most : ℕ)
   pub event_at : (n : Named) (k : List Item) (f t : ℕ) → EventMadeAt sc context ps level f t → HasNoCounts k → SlotsFollow sc context ps level most k t → SlotsHaveRoom most [] 2 →
       Coming (rests.event n k) f (pend k)
   event_at n k f t h none follows room =
-      subst (λ y. Coming (rests.event n k) f y) (sym (pend-none k none))
+      subst (λ y. Coming (rests.event n k) f y) (sym (pend_none k none))
       (after_rest sc context ps level most (first (call Event h.intrinsic (omega (arith, room))) there)
       (stays_here sc context ps level most h.named (intrinsic Event ∷ mark ∷ []) (rests.event n k) (event_asks n)
       (t, record { lies = refl; made = h.made; stands = h.enter; push = h.push }, none, follows)))

@@ -20,9 +20,9 @@ use Rattle.b67_templates.specs.Code.{StepSign, up, down, still, SignedAt}
 use Rattle.b67_standing.specs.Stepping.{Slot, FragmentStep, push_number, push_truth, push_reference, stuff, move, exchange, calculate, negate, invert, false_stays, false_goes, true_stays, true_goes, go, call, announce, summon, drop, counts, spent, within, past, within_literal, past_literal}
 use Rattle.b67_standing.specs.Standing.{line_begun, start_begun, IsLastSubscript, of_row, of_element, ActionAt, Acted}
 use Rattle.b67_standing.specs.Laws.{LeadsHaveRoom, ActionsHaveRoom, StepsGoForward}
-use Rattle.b67_standing.proofs.OnEvents.{acted_on-length}
+use Rattle.b67_standing.proofs.OnEvents.{acted_on_length}
 use Rattle.b67_standing.proofs.Leading.{forward, all_forward, leads_within}
-use Rattle.b67_standing.proofs.Actuals.{operands-length, given_slots-above}
+use Rattle.b67_standing.proofs.Actuals.{operands_length, given_slots_above}
 
 -- a step of 0 is never past its limit
 not_past : (d : ℤ) → is_past d (pos 0) ≡ true → ⊥
@@ -93,12 +93,12 @@ module _ (sc : Scopes) (context : Context) (ps : List Placed) (level most : ℕ)
   acted_within (asks.makes_arrays kind ns pairs vs) pc slots h rests.done at after l room = omega (arith, ap length l.1)
   acted_within (asks.makes_event n) pc slots h rests.done at after l room = omega (arith, ap length l.1)
   acted_within (asks.event_deed (deeds.tests x) ns) pc slots h (rests.value v) at after l room =
-      omega (arith, room, acted_on-length sc context ps level most (deeds.tests x) ns pc h.0 slots h.1 h.2, ap length l.1)
+      omega (arith, room, acted_on_length sc context ps level most (deeds.tests x) ns pc h.0 slots h.1 h.2, ap length l.1)
   acted_within (asks.event_deed (deeds.acts act) ns) pc slots h rests.done at after l room =
-      omega (arith, room, acted_on-length sc context ps level most (deeds.acts act) ns pc h.0 slots h.1 h.2, ap length l.1)
+      omega (arith, room, acted_on_length sc context ps level most (deeds.acts act) ns pc h.0 slots h.1 h.2, ap length l.1)
   acted_within (asks.starts n gs task) pc slots h rests.done at after l room =
       let r = h.3 in
-      omega (arith, room, ap length r.lies, given_slots-above (parameter_wants sc h.0) gs (start_begun r.couple r.tasked h.2), ap length l.1)
+      omega (arith, room, ap length r.lies, given_slots_above (parameter_wants sc h.0) gs (start_begun r.couple r.tasked h.2), ap length l.1)
   acted_within (asks.passes n) pc slots h (rests.cell c) at after l room = omega (arith, room, ap length (h.3).lies, ap length l.1)
   acted_within (asks.resolves n) pc slots h (rests.place (rests.there r)) at after l room = omega (arith, room, ap length (h.3).lies, ap length l.1)
   acted_within (asks.stores (rests.there r) v) pc slots h rests.done at after l room = omega (arith, room, ap length (h.2).lies, ap length l.1)
@@ -108,7 +108,7 @@ module _ (sc : Scopes) (context : Context) (ps : List Placed) (level most : ℕ)
   acted_within (asks.selects v ss) pc slots h rests.done at after l room = omega (arith, room, ap length (h.2).lies, ap length l.4)
   acted_within asks.turns pc slots h rests.done at after l room = omega (arith, room, ap length l.1)
   acted_within (asks.writes phrases vs) pc slots h rests.done at after l room =
-      omega (arith, room, ap length (h.2).lies, operands-length vs (line_begun (h.2).format h.1), ap length l.1)
+      omega (arith, room, ap length (h.2).lies, operands_length vs (line_begun (h.2).format h.1), ap length l.1)
   acted_within _ pc slots h a at after l room = absurd l
 
 pub steps_go_forward : StepsGoForward

@@ -31,7 +31,7 @@ use Rattle.b67_templates.specs.Depths.{stmt_depth, stmts_depth}
 use Rattle.b67_standing.specs.Stepping.{held_at, Slot, operand, reference, intrinsic, descriptor, mark, SlotsHaveRoom, go, drop, there, first}
 use Rattle.b67_standing.specs.Standing.{pend, operands, call_begun, start_begun, Gives, pushed, line_begun, arrays_begun, extents, SlotsFollow, StandsFor, ComesTo, ActionAt, Acted, CodeGoesOn}
 use Rattle.b67_standing.specs.Laws.{RestsGoOn}
-use Rattle.b67_standing.proofs.Leading.{pend-none}
+use Rattle.b67_standing.proofs.Leading.{pend_none}
 use Rattle.b67_standing.proofs.Asking.{leaves_asks}
 use Rattle.b67_standing.proofs.Rests.{after_rest, stays_here, assigned_stands, chosen_stands, looped_stands, checked_stands, selected_stands, called_stands, prepared_stands, item_stands, line_at}
 use Rattle.b67_standing.proofs.Loops.{counted_stands, again_at, tested_stands, differed_stands}
@@ -43,10 +43,10 @@ use Rattle.b67_standing.proofs.Heads.{next_at, by_head, by_actuals}
 use Rattle.b67_standing.proofs.Aiming.{by_aim}
 use Rattle.b67_standing.proofs.Routines.{evaluated_stands, located}
 
-nth-depth : (ss : PStmts) (i : ℕ) → i < stmts_count ss → stmt_depth (nth_stmt ss i) ≤ stmts_depth ss
-nth-depth tree.no_stmts i h = omega arith
-nth-depth (tree.stmts s ss) zero h = omega arith
-nth-depth (tree.stmts s ss) (suc i) h = omega (arith, nth-depth ss i (omega (arith, h)))
+nth_depth : (ss : PStmts) (i : ℕ) → i < stmts_count ss → stmt_depth (nth_stmt ss i) ≤ stmts_depth ss
+nth_depth tree.no_stmts i h = omega arith
+nth_depth (tree.stmts s ss) zero h = omega arith
+nth_depth (tree.stmts s ss) (suc i) h = omega (arith, nth_depth ss i (omega (arith, h)))
 
 module _ (sc : Scopes) (context : Context) (ps : List Placed) (level most : ℕ) where
   abbrev Coming : Rest → ℕ → List Slot → Type 0
@@ -106,7 +106,7 @@ module _ (sc : Scopes) (context : Context) (ps : List Placed) (level most : ℕ)
     where
       answer : (a : Answer) (at : ℕ) (after : List Slot) → Acted sc context ps level most (makes_arrays kind ns pairs vs) pc slots (s.0, s.1) a at after → Coming (settle_items sc k) at after
       answer rests.done at after l =
-          next_at sc context ps level most k (settle_items sc k) s.0 at after l.0 (l.1 ∙ sym (pend-none k s.2)) (items_at sc context ps level most k s.0 s.3)
+          next_at sc context ps level most k (settle_items sc k) s.0 at after l.0 (l.1 ∙ sym (pend_none k s.2)) (items_at sc context ps level most k s.0 s.3)
       answer (rests.value v) at after l = absurd l
       answer (rests.cell c) at after l = absurd l
       answer (rests.place p) at after l = absurd l
@@ -117,7 +117,7 @@ module _ (sc : Scopes) (context : Context) (ps : List Placed) (level most : ℕ)
     where
       answer : (a : Answer) (at : ℕ) (after : List Slot) → Acted sc context ps level most (makes_event n) pc slots (s.0, s.1) a at after → Coming (settle_items sc k) at after
       answer rests.done at after l =
-          next_at sc context ps level most k (settle_items sc k) s.0 at after l.0 (l.1 ∙ sym (pend-none k s.2)) (items_at sc context ps level most k s.0 s.3)
+          next_at sc context ps level most k (settle_items sc k) s.0 at after l.0 (l.1 ∙ sym (pend_none k s.2)) (items_at sc context ps level most k s.0 s.3)
       answer (rests.value v) at after l = absurd l
       answer (rests.cell c) at after l = absurd l
       answer (rests.place p) at after l = absurd l
@@ -269,7 +269,7 @@ module _ (sc : Scopes) (context : Context) (ps : List Placed) (level most : ℕ)
   case_entered ss i table u k h b follows room =
       let c = case_at ss i table u h b in
       after_rest sc context ps level most (first (go c.branch) there)
-      (stmt_at sc context ps level most (nth_stmt ss i) c.from c.to u c.stands c.out k (settle_items sc k) follows (omega (arith, room, nth-depth ss i b)) (items_at sc context ps level most k u follows))
+      (stmt_at sc context ps level most (nth_stmt ss i) c.from c.to u c.stands c.out k (settle_items sc k) follows (omega (arith, room, nth_depth ss i b)) (items_at sc context ps level most k u follows))
 
   abbrev case_action : (v : Value) (ss : PStmts) (k : List Item) (pc : ℕ) (slots : List Slot) → StandsFor sc context ps level most (rests.select v ss k) pc slots →
       ActionAt sc context ps level most (selects v ss) pc slots

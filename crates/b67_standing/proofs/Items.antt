@@ -13,7 +13,7 @@ use Rattle.b67_templates.specs.Depths.{depth, stmt_depth}
 use Rattle.b67_standing.specs.Stepping.{SlotsHaveRoom}
 use Rattle.b67_standing.specs.Standing.{pend, SlotsFollow, RoundAt, ComesTo}
 use Rattle.b67_standing.specs.Laws.{ItemsStand}
-use Rattle.b67_standing.proofs.Leading.{pend-length, leads_by}
+use Rattle.b67_standing.proofs.Leading.{pend_length, leads_by}
 use Rattle.b67_standing.proofs.Asking.{leaves_asks, result_asks}
 use Rattle.b67_standing.proofs.Settling.{settle_at}
 use Rattle.b67_standing.proofs.Rests.{after_rest, stays_here, turning_at, checked_stands}
@@ -29,7 +29,7 @@ module _ (sc : Scopes) (context : Context) (ps : List Placed) (level most : ℕ)
       let h = s.at in
       let more : SlotsFollow sc context ps level most k h.2 = record { at = h.6; shallow = (s.shallow).1; counts = s.counts } in
       after_rest sc context ps level most (leads_by sc context ps level most h.3)
-      (stmt_at sc context ps level most x h.0 h.1 h.2 h.4 h.5 k (settle_items sc k) more (omega (arith, (s.shallow).0, pend-length k)) (items_at k h.2 more))
+      (stmt_at sc context ps level most x h.0 h.1 h.2 h.4 h.5 k (settle_items sc k) more (omega (arith, (s.shallow).0, pend_length k)) (items_at k h.2 more))
   items_at (rests.turn ∷ k) pc s =
       let h = s.at in
       let more : SlotsFollow sc context ps level most k h.1 = record { at = h.5; shallow = (s.shallow).1; counts = s.counts } in
@@ -38,13 +38,13 @@ module _ (sc : Scopes) (context : Context) (ps : List Placed) (level most : ℕ)
       let h = s.at in
       let more : SlotsFollow sc context ps level most k h.2 = record { at = h.6; shallow = (s.shallow).1; counts = (s.counts).1 } in
       after_rest sc context ps level most (leads_by sc context ps level most h.3)
-      (repeated_at sc context ps level most b k (settle_items sc k) h.0 h.1 h.2 h.4 h.5 more (omega (arith, (s.shallow).0, pend-length k))
+      (repeated_at sc context ps level most b k (settle_items sc k) h.0 h.1 h.2 h.4 h.5 more (omega (arith, (s.shallow).0, pend_length k))
       (stmt_at sc context ps level most b (h.4).1 (h.4).2 (h.4).2 (h.4).4 stop) (items_at k h.2 more) n (s.counts).0)
   items_at (rests.check b c ∷ k) pc s =
       let h = s.at in
       let w = h.6 in
       let more : SlotsFollow sc context ps level most k h.3 = record { at = h.8; shallow = (s.shallow).1; counts = s.counts } in
-      let room : SlotsHaveRoom most (pend k) (stmt_depth b + depth c) = omega (arith, (s.shallow).0, pend-length k) in
+      let room : SlotsHaveRoom most (pend k) (stmt_depth b + depth c) = omega (arith, (s.shallow).0, pend_length k) in
       let d = settle_at sc context ps level most types.Truth c h.0 w.0 w.0 w.2 stop (pend k) (omega (arith, room)) in
       after_rest sc context ps level most (leads_by sc context ps level most h.4)
       (after_rest sc context ps level most d.leads
@@ -53,7 +53,7 @@ module _ (sc : Scopes) (context : Context) (ps : List Placed) (level most : ℕ)
       let h = s.at in
       let l = h.4 in
       let more : SlotsFollow sc context ps level most k h.2 = record { at = h.5; shallow = (s.shallow).1; counts = s.counts } in
-      let room : RoundRoom sc context ps level most loop k = omega (arith, (s.shallow).0, pend-length k) in
+      let room : RoundRoom sc context ps level most loop k = omega (arith, (s.shallow).0, pend_length k) in
       let d = settle_at sc context ps level most types.Number (difference_in loop) h.0 l.0 l.0 l.4 stop (pend k) (omega (arith, room)) in
       let round : RoundAt sc context ps level most loop h.0 l.1 h.1 = (l.2, l.3, l.6, l.7, l.8) in
       after_rest sc context ps level most (leads_by sc context ps level most h.3)

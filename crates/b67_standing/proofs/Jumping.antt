@@ -18,14 +18,14 @@ use Rattle.b67_standing.specs.Stepping.{go, there, first}
 use Rattle.b67_standing.specs.Standing.{ComesTo}
 use Rattle.b67_standing.specs.Laws.{JumpsStand}
 use Rattle.b67_standing.proofs.Rests.{after_rest}
-use Rattle.b67_standing.proofs.Starting.{items-uncounted, decls-split, none_wait, items-shallow, ends, bare_start}
+use Rattle.b67_standing.proofs.Starting.{items_uncounted, decls_split, none_wait, items_shallow, ends, bare_start}
 
 some_is : {X : Type 0} {a b : X} → Some a ≡ Some b → a ≡ b
 some_is e = cc
 
-from-depth : (ss : PStmts) (name : List ℕ) → stmts_depth (stmts_from ss name) ≤ stmts_depth ss
-from-depth tree.no_stmts name = omega arith
-from-depth (tree.stmts s ss) name = by (is_labelled s name) (from-depth ss name)
+from_depth : (ss : PStmts) (name : List ℕ) → stmts_depth (stmts_from ss name) ≤ stmts_depth ss
+from_depth tree.no_stmts name = omega arith
+from_depth (tree.stmts s ss) name = by (is_labelled s name) (from_depth ss name)
   where
     by : (b : Bool) → stmts_depth (stmts_from ss name) ≤ stmts_depth ss → stmts_depth (if b then tree.stmts s ss else stmts_from ss name) ≤ stmts_depth (tree.stmts s ss)
     by true later = omega arith
@@ -41,9 +41,9 @@ module _ (sc : Scopes) (context : Context) (ps : List Placed) (level : ℕ) wher
   all_made tree.no_decls k pc s = (pc, s)
   all_made (tree.decls (tree.arrays kind ns pairs) ds) k pc s = all_made ds k s.1 s.5
   all_made (tree.decls (tree.events ns) ds) k pc s =
-      let l = events_made ns (decls_items ds ++ k) pc (subst (λ o. KAt sc context ps level o pc) (decls-split (tree.events ns) ds k) s) in all_made ds k l.0 l.1
+      let l = events_made ns (decls_items ds ++ k) pc (subst (λ o. KAt sc context ps level o pc) (decls_split (tree.events ns) ds k) s) in all_made ds k l.0 l.1
   all_made (tree.decls (tree.tasks ns) ds) k pc s =
-      let l = events_made ns (decls_items ds ++ k) pc (subst (λ o. KAt sc context ps level o pc) (decls-split (tree.tasks ns) ds k) s) in all_made ds k l.0 l.1
+      let l = events_made ns (decls_items ds ++ k) pc (subst (λ o. KAt sc context ps level o pc) (decls_split (tree.tasks ns) ds k) s) in all_made ds k l.0 l.1
   all_made (tree.decls (tree.simple kind ns) ds) k pc s = all_made ds k pc s
   all_made (tree.decls (tree.files ns) ds) k pc s = all_made ds k pc s
   all_made (tree.decls (tree.labels ns) ds) k pc s = all_made ds k pc s
@@ -89,11 +89,11 @@ jumps_stand sc context ps level most b name number pc h l room one =
     let e = ends most b b.result refl one in
     let statements = all_made sc context ps level b.decls (items b.stmts (ending b)) pc h in
     let from = labelled_in sc context ps level b.stmts (ending b) name l.label statements.0 l.stands statements.1 in
-    let all = items-uncounted (stmts_from b.stmts name) (ending b) e.none in
+    let all = items_uncounted (stmts_from b.stmts name) (ending b) e.none in
     let same : from.at ≡ l.target = some_is (sym from.place ∙ l.place) in
     let start = bare_start sc context ps level most (items_from b name) from.at all (record {
       at = from.follows;
-      shallow = items-shallow most (stmts_from b.stmts name) (ending b) e.none (omega (arith, room, from-depth b.stmts name)) e.shallow;
+      shallow = items_shallow most (stmts_from b.stmts name) (ending b) e.none (omega (arith, room, from_depth b.stmts name)) e.shallow;
       counts = none_wait (items_from b name) all;
     }) in
     after_rest sc context ps level most (first (go l.branch) there) (subst (λ z. ComesTo sc context ps level most (settle_items sc (items_from b name)) z []) same start)

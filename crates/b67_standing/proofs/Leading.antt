@@ -8,7 +8,7 @@ use Rattle.algol_meaning.specs.Rest as rests
 use Rattle.algol_meaning.specs.Rest.{Item}
 use Rattle.b67_ops.specs.declared.Operator.{Operator}
 use Rattle.b67_ops.specs.declared.PlainKind.{PlainKind}
-use Rattle.b67_ops.proofs.Laws.{length-spelling}
+use Rattle.b67_ops.proofs.Laws.{length_spelling}
 use Rattle.b67_segment.specs.Operators.{Placed}
 use Rattle.b67_templates.specs.Contexts.{Context}
 use Rattle.b67_templates.specs.Fragments.{Has, AllAt, FragmentGoes, stop, over}
@@ -18,44 +18,44 @@ use Rattle.b67_standing.specs.Stepping.{Slot, operand, SlotsHaveRoom, FragmentSt
 use Rattle.b67_standing.specs.Standing.{pend, SlotsFollow}
 
 -- an expression needs a word at least
-pub depth-positive : (e : PExpr) → 1 ≤ depth e
-depth-positive (tree.paren e spot) = depth-positive e
-depth-positive (tree.plus e spot) = depth-positive e
-depth-positive (tree.neg e spot) = depth-positive e
-depth-positive (tree.not e spot) = depth-positive e
-depth-positive (tree.two op a b) = omega (arith, depth-positive a)
-depth-positive (tree.if c x y spot) = omega (arith, depth-positive c)
-depth-positive (tree.variable (tree.subscripted n tree.none)) = omega arith
-depth-positive (tree.variable (tree.subscripted n (tree.more e es))) = omega arith
-depth-positive (tree.call (tree.called n es)) = omega arith
-depth-positive _ = omega arith
+pub depth_positive : (e : PExpr) → 1 ≤ depth e
+depth_positive (tree.paren e spot) = depth_positive e
+depth_positive (tree.plus e spot) = depth_positive e
+depth_positive (tree.neg e spot) = depth_positive e
+depth_positive (tree.not e spot) = depth_positive e
+depth_positive (tree.two op a b) = omega (arith, depth_positive a)
+depth_positive (tree.if c x y spot) = omega (arith, depth_positive c)
+depth_positive (tree.variable (tree.subscripted n tree.none)) = omega arith
+depth_positive (tree.variable (tree.subscripted n (tree.more e es))) = omega arith
+depth_positive (tree.call (tree.called n es)) = omega arith
+depth_positive _ = omega arith
 
-pub pend-length : (k : List Item) → length (pend k) ≡ counts_in k
-pend-length [] = refl
-pend-length (rests.count n b ∷ k) = omega (arith, pend-length k)
-pend-length (rests.run s ∷ k) = pend-length k
-pend-length (rests.turn ∷ k) = pend-length k
-pend-length (rests.check b c ∷ k) = pend-length k
-pend-length (rests.test loop ∷ k) = pend-length k
-pend-length (rests.result name ∷ k) = pend-length k
-pend-length (rests.make_arrays kind ns pairs ∷ k) = pend-length k
-pend-length (rests.make_event n ∷ k) = pend-length k
+pub pend_length : (k : List Item) → length (pend k) ≡ counts_in k
+pend_length [] = refl
+pend_length (rests.count n b ∷ k) = omega (arith, pend_length k)
+pend_length (rests.run s ∷ k) = pend_length k
+pend_length (rests.turn ∷ k) = pend_length k
+pend_length (rests.check b c ∷ k) = pend_length k
+pend_length (rests.test loop ∷ k) = pend_length k
+pend_length (rests.result name ∷ k) = pend_length k
+pend_length (rests.make_arrays kind ns pairs ∷ k) = pend_length k
+pend_length (rests.make_event n ∷ k) = pend_length k
 
 -- without a THRU nothing waits
-pub pend-none : (k : List Item) → HasNoCounts k → pend k ≡ []
-pend-none [] h = refl
-pend-none (rests.count n b ∷ k) h = absurd h
-pend-none (rests.run s ∷ k) h = pend-none k h
-pend-none (rests.turn ∷ k) h = pend-none k h
-pend-none (rests.check b c ∷ k) h = pend-none k h
-pend-none (rests.test loop ∷ k) h = pend-none k h
-pend-none (rests.result name ∷ k) h = pend-none k h
-pend-none (rests.make_arrays kind ns pairs ∷ k) h = pend-none k h
-pend-none (rests.make_event n ∷ k) h = pend-none k h
+pub pend_none : (k : List Item) → HasNoCounts k → pend k ≡ []
+pend_none [] h = refl
+pend_none (rests.count n b ∷ k) h = absurd h
+pend_none (rests.run s ∷ k) h = pend_none k h
+pend_none (rests.turn ∷ k) h = pend_none k h
+pend_none (rests.check b c ∷ k) h = pend_none k h
+pend_none (rests.test loop ∷ k) h = pend_none k h
+pend_none (rests.result name ∷ k) h = pend_none k h
+pend_none (rests.make_arrays kind ns pairs ∷ k) h = pend_none k h
+pend_none (rests.make_event n ∷ k) h = pend_none k h
 
 module _ (ps : List Placed) (level : ℕ) where
   pub forward : {at next : ℕ} {op : Operator} → Has ps level at op next → at < next
-  forward {at} {next} {op} h = omega (arith, h.next_is, (length-spelling at level op).0)
+  forward {at} {next} {op} h = omega (arith, h.next_is, (length_spelling at level op).0)
 
   pub all_forward : (list : List PlainKind) (from to : ℕ) → AllAt ps level list from to → from ≤ to
   all_forward [] from to h = omega (arith, h)
@@ -100,7 +100,7 @@ module _ (sc : Scopes) (context : Context) (ps : List Placed) (level most : ℕ)
       SlotsFollow sc context ps level most k u → SlotsFollow sc context ps level most (rests.run s ∷ k) q
   follows_run s k q t u h g room f = record {
     at = (q, t, u, stop, h, g, f.at);
-    shallow = (omega (arith, room, pend-length k), f.shallow);
+    shallow = (omega (arith, room, pend_length k), f.shallow);
     counts = f.counts;
   }
 

@@ -18,7 +18,7 @@ use Rattle.b67_templates.specs.Code.{ExprAt, PastAt, StepSign, SignedAt, StepAt,
 use Rattle.b67_templates.specs.Depths.{loop_depth, stmt_depth}
 use Rattle.b67_standing.specs.Stepping.{Slot, operand, SlotsHaveRoom, counts, spent, drop, within, past, within_literal, past_literal, there, first}
 use Rattle.b67_standing.specs.Standing.{pend, SlotsFollow, Shows, RoundAt, ComesTo}
-use Rattle.b67_standing.proofs.Leading.{depth-positive, pend-length, leads_by, valued_at, follows_run}
+use Rattle.b67_standing.proofs.Leading.{depth_positive, pend_length, leads_by, valued_at, follows_run}
 use Rattle.b67_standing.proofs.Asking.{holds_asks}
 use Rattle.b67_standing.proofs.Settling.{settle_at}
 use Rattle.b67_standing.proofs.Rests.{after_rest, stays_here, follows_turn, turning_at, assign_at}
@@ -43,7 +43,7 @@ module _ (sc : Scopes) (context : Context) (ps : List Placed) (level most : ℕ)
   count_body b k q t u h g follows room p z w e =
       let further : Following (after_count z b k) q = record {
         at = (q, t, u, stop, h, g, follows.at);
-        shallow = (omega (arith, room, pend-length k), follows.shallow);
+        shallow = (omega (arith, room, pend_length k), follows.shallow);
         counts = (less_whole z w e, follows.counts);
       } in
       p (rests.turn ∷ after_count z b k) (rests.turning (after_count z b k)) (follows_turn sc context ps level most (after_count z b k) h.2 q h.0 h.5 further) (omega (arith, room))
@@ -81,7 +81,7 @@ module _ (sc : Scopes) (context : Context) (ps : List Placed) (level most : ℕ)
       RoundAt sc context ps level most loop q n t → Following k u → RoundRoom loop k → Following (rests.test loop ∷ k) q
   follows_test loop k q m n t u d s h follows room = record {
     at = (q, t, u, stop, (m, n, h.0, h.1, d, s, h.2, h.3, h.4), follows.at);
-    shallow = (omega (arith, room, pend-length k), follows.shallow);
+    shallow = (omega (arith, room, pend_length k), follows.shallow);
     counts = follows.counts;
   }
 
@@ -91,7 +91,7 @@ module _ (sc : Scopes) (context : Context) (ps : List Placed) (level most : ℕ)
   again_at loop k q m n t u d s h follows room p =
       let tested = follows_test loop k q m n t u d s h follows room in
       let turned = follows_turn sc context ps level most (rests.test loop ∷ k) h.1 q t h.4 tested in
-      let deep : SlotsHaveRoom most (pend k) (stmt_depth (stepped loop)) = omega (arith, room, depth-positive loop.last) in
+      let deep : SlotsHaveRoom most (pend k) (stmt_depth (stepped loop)) = omega (arith, room, depth_positive loop.last) in
       let run = follows_run sc context ps level most (stepped loop) (rests.turn ∷ rests.test loop ∷ k) h.0 h.1 h.1 h.3 stop deep turned in
       p (rests.run (stepped loop) ∷ rests.turn ∷ rests.test loop ∷ k) (settle_stmt sc (stepped loop) (rests.turn ∷ rests.test loop ∷ k) (rests.turning (rests.test loop ∷ k))) run
       (omega (arith, room))

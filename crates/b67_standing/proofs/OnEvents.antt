@@ -17,16 +17,16 @@ use Rattle.b67_templates.specs.Events.{OnEventsAt, AreSoMany}
 use Rattle.b67_standing.specs.Stepping.{Slot, reference, intrinsic, mark, SlotsHaveRoom, push_reference, call, StepsLead, there, first}
 use Rattle.b67_standing.specs.Standing.{references, ActsOnAt}
 
-pub references-length : (cs : List Couple) (below : List Slot) → length (references cs below) ≡ length cs + length below
-references-length [] below = omega arith
-references-length (c ∷ cs) below = omega (arith, references-length cs (reference c ∷ below))
+pub references_length : (cs : List Couple) (below : List Slot) → length (references cs below) ≡ length cs + length below
+references_length [] below = omega arith
+references_length (c ∷ cs) below = omega (arith, references_length cs (reference c ∷ below))
 
 -- each event has its couple
-pub couples-length : (sc : Scopes) (level : ℕ) (ns : List Named) (cs : List Couple) → AreEvents sc level ns cs → length cs ≡ length ns
-couples-length sc level [] [] h = refl
-couples-length sc level (n ∷ ns) (c ∷ cs) h = omega (arith, couples-length sc level ns cs h.1)
-couples-length sc level [] (c ∷ cs) h = absurd h
-couples-length sc level (n ∷ ns) [] h = absurd h
+pub couples_length : (sc : Scopes) (level : ℕ) (ns : List Named) (cs : List Couple) → AreEvents sc level ns cs → length cs ≡ length ns
+couples_length sc level [] [] h = refl
+couples_length sc level (n ∷ ns) (c ∷ cs) h = omega (arith, couples_length sc level ns cs h.1)
+couples_length sc level [] (c ∷ cs) h = absurd h
+couples_length sc level (n ∷ ns) [] h = absurd h
 
 module _ (sc : Scopes) (context : Context) (ps : List Placed) (level most : ℕ) where
   references_lead : (cs : List Couple) (f t : ℕ) (below : List Slot) → ReferencesAt ps level cs f t → SlotsHaveRoom most below (length cs) →
@@ -44,16 +44,16 @@ module _ (sc : Scopes) (context : Context) (ps : List Placed) (level most : ℕ)
     events_named room =
         first (call (intrinsic_of x) h.intrinsic (omega (arith, room)))
         (references_lead h.couples h.named h.referred (intrinsic (intrinsic_of x) ∷ mark ∷ below) h.references
-        (omega (arith, room, couples-length sc context.level ns h.couples h.are_events)))
+        (omega (arith, room, couples_length sc context.level ns h.couples h.are_events)))
 
     pub events_there : AreSoMany x ns → ActsOnAt sc context ps level most x ns h.referred t all_named below
     events_there many = record { many = many; couples = h.couples; are_events = h.are_events; lies = refl; stands = h.enter }
 
   -- the words that an action on events finds there
-  pub acted_on-length : (x : EventDeed) (ns : List Named) (pc next : ℕ) (slots below : List Slot) → (r : ActsOnAt sc context ps level most x ns pc next slots below) →
+  pub acted_on_length : (x : EventDeed) (ns : List Named) (pc next : ℕ) (slots below : List Slot) → (r : ActsOnAt sc context ps level most x ns pc next slots below) →
       length slots ≡ length r.couples + 2 + length below
-  acted_on-length x ns pc next slots below r =
-      omega (arith, ap length r.lies, references-length r.couples (intrinsic (intrinsic_of x) ∷ mark ∷ below))
+  acted_on_length x ns pc next slots below r =
+      omega (arith, ap length r.lies, references_length r.couples (intrinsic (intrinsic_of x) ∷ mark ∷ below))
 
   -- ---- where one event is named
 

@@ -30,7 +30,7 @@ use Rattle.b67_templates.specs.Depths.{depth, stmt_depth, stmts_depth}
 use Rattle.b67_standing.specs.Stepping.{Slot, operand, reference, intrinsic, control, mark, SlotsHaveRoom, push_number, push_reference, call, announce, summon, StepsLead, there, first}
 use Rattle.b67_standing.specs.Standing.{pend, call_begun, start_begun, IsTask, SlotsFollow, WhileAt, ComesTo}
 use Rattle.b67_standing.proofs.OnEvents.{all_named, events_named, events_there}
-use Rattle.b67_standing.proofs.Leading.{depth-positive, pend-length, leads_by, follows_before, follows_run}
+use Rattle.b67_standing.proofs.Leading.{depth_positive, pend_length, leads_by, follows_before, follows_run}
 use Rattle.b67_standing.proofs.Asking.{deed_asks, going_asks, enters_asks}
 use Rattle.b67_standing.proofs.Actuals.{ComesFilled}
 use Rattle.b67_standing.proofs.Settling.{settle_at, actuals_at}
@@ -38,9 +38,9 @@ use Rattle.b67_standing.proofs.Rests.{after_rest, stays_here, follows_turn, turn
 use Rattle.b67_standing.proofs.Elements.{element_assign_at}
 use Rattle.b67_standing.proofs.Loops.{Performs, counted_stands}
 
-pub pend-items : (ss : PStmts) (k : List Item) → pend (items ss k) ≡ pend k
-pend-items tree.no_stmts k = refl
-pend-items (tree.stmts s ss) k = pend-items ss k
+pub pend_items : (ss : PStmts) (k : List Item) → pend (items ss k) ≡ pend k
+pend_items tree.no_stmts k = refl
+pend_items (tree.stmts s ss) k = pend_items ss k
 
 module _ (sc : Scopes) (context : Context) (ps : List Placed) (level most : ℕ) where
   abbrev Coming : Rest → ℕ → List Slot → Type 0
@@ -182,7 +182,7 @@ module _ (sc : Scopes) (context : Context) (ps : List Placed) (level most : ℕ)
   items_follow tree.no_stmts k f t u h g follows room = subst (Following k) (sym h) (follows_before sc context ps level most k g follows)
   items_follow (tree.stmts s tree.no_stmts) k f t u h g follows room = follows_run sc context ps level most s k f t u h g (omega (arith, room)) follows
   items_follow (tree.stmts s (tree.stmts s' ss)) k f t u h g follows room =
-      let deep : SlotsHaveRoom most (pend (items (tree.stmts s' ss) k)) (stmt_depth s) = omega (arith, room, ap length (pend-items (tree.stmts s' ss) k)) in
+      let deep : SlotsHaveRoom most (pend (items (tree.stmts s' ss) k)) (stmt_depth s) = omega (arith, room, ap length (pend_items (tree.stmts s' ss) k)) in
       follows_run sc context ps level most s (items (tree.stmts s' ss) k) f h.0 h.0 h.1 stop deep
       (items_follow (tree.stmts s' ss) k h.0 t u h.2 g follows (omega (arith, room)))
 
@@ -221,7 +221,7 @@ module _ (sc : Scopes) (context : Context) (ps : List Placed) (level most : ℕ)
         let w = h.2 in
         let d = settle_at sc context ps level most types.Truth e h.0 w.0 w.0 w.2 stop (pend k) (omega (arith, room)) in
         stmt_at b f h.0 h.0 h.1 stop (rests.check b e ∷ k) (checked_of (settle sc e) b e k r)
-        (record { at = (h.0, f, t, u, stop, h.1, w, g, follows.at); shallow = (omega (arith, room, pend-length k), follows.shallow); counts = follows.counts }) (omega (arith, room))
+        (record { at = (h.0, f, t, u, stop, h.1, w, g, follows.at); shallow = (omega (arith, room, pend_length k), follows.shallow); counts = follows.counts }) (omega (arith, room))
         (after_rest sc context ps level most d.leads
         (checked_stands sc context ps level most (settle sc e) b e k r d.at d.with_slots f h.0 w.0 w.1 t u d.shows h.1 w.2 w.3 w.4 g follows room c))
     stmt_at (tree.for v a s l b) f t u h g k r follows room c =
@@ -229,7 +229,7 @@ module _ (sc : Scopes) (context : Context) (ps : List Placed) (level most : ℕ)
         assign_at sc context ps level most v a f h.0 (rests.test loop ∷ k) h.5
         (record {
           at = (h.0, t, u, stop, (h.1, h.2, h.3, h.4, h.6, h.7, h.8, h.9, h.10), follows.at);
-          shallow = (omega (arith, room, pend-length k), follows.shallow);
+          shallow = (omega (arith, room, pend_length k), follows.shallow);
           counts = follows.counts;
         }) (omega (arith, room))
     stmt_at (tree.thru e b) f t u h g k r follows room c =
@@ -240,7 +240,7 @@ module _ (sc : Scopes) (context : Context) (ps : List Placed) (level most : ℕ)
     stmt_at (tree.case e ss) f t u h g k r follows room c =
         let d = settle_at sc context ps level most types.Number e h.0 h.1 h.1 h.4 stop (intrinsic Select ∷ mark ∷ pend k) (omega (arith, room)) in
         after_rest sc context ps level most (first (call Select h.3 (omega (arith, room))) d.leads)
-        (selected_stands sc context ps level most (settle sc e) ss k d.at d.with_slots h.1 h.2 u d.shows h.5 h.6 follows (omega (arith, room, depth-positive e)))
+        (selected_stands sc context ps level most (settle sc e) ss k d.at d.with_slots h.1 h.2 u d.shows h.5 h.6 follows (omega (arith, room, depth_positive e)))
     stmt_at (tree.write n spot phrases es) f t u h g k r follows room c = write_at n spot phrases es f t u h g k r follows room c
     stmt_at (tree.label n s) f t u h g k r follows room c = stmt_at s f t u h.1 g k r follows room c
     stmt_at (tree.go_to n) f t u h g k r follows room c = gone_at n f t u h k r follows room c
@@ -252,7 +252,7 @@ module _ (sc : Scopes) (context : Context) (ps : List Placed) (level most : ℕ)
     stmts_at (tree.stmts s tree.no_stmts) f t u h g k r follows room c = stmt_at s f t u h g k r follows (omega (arith, room)) c
     stmts_at (tree.stmts s (tree.stmts s' ss)) f t u h g k r follows room c =
         let more = tree.stmts s' ss in
-        let same = pend-items more k in
+        let same = pend_items more k in
         subst (λ o. Coming (settle_stmt sc s (items more k) (settle_stmts sc more k r)) f o) same
         (stmt_at s f h.0 h.0 h.1 stop (items more k) (settle_stmts sc more k r) (items_follow more k h.0 t u h.2 g follows (omega (arith, room))) (omega (arith, room, ap length same))
         (subst (λ o. Coming (settle_stmts sc more k r) h.0 o) (sym same) (stmts_at (tree.stmts s' ss) h.0 t u h.2 g k r follows (omega (arith, room)) c)))

@@ -29,15 +29,15 @@ use Rattle.b67_templates.specs.Code.{FormatIs, DroppedAt, PlaceAt, ExprAt, Assig
 use Rattle.b67_templates.specs.Depths.{depth, line_depth, stmt_depth, stmts_depth, counts_in, AreShallow}
 use Rattle.b67_standing.specs.Stepping.{Slot, operand, reference, intrinsic, mark, SlotsHaveRoom, push_number, push_reference, false_stays, false_goes, true_stays, true_goes, StepsLead, there, first}
 use Rattle.b67_standing.specs.Standing.{pend, operands, AreNumbers, line_begun, call_begun, start_begun, IsTask, SlotsFollow, CallsAt, StartsAt, Holds, Shows, WhileAt, StandsFor, ComesTo}
-use Rattle.b67_standing.proofs.Leading.{depth-positive, on, valued_at, follows_run}
+use Rattle.b67_standing.proofs.Leading.{depth_positive, on, valued_at, follows_run}
 use Rattle.b67_standing.proofs.Asking.{resolves_asks, stores_asks, selects_asks, turns_asks, writes_asks, calls_asks, starts_asks, holds_asks, fills_asks}
-use Rattle.b67_standing.proofs.Actuals.{operands-more, operands-length, Filled}
+use Rattle.b67_standing.proofs.Actuals.{operands_more, operands_length, Filled}
 use Rattle.b67_standing.proofs.Settling.{settle_at}
 use Rattle.b67_standing.proofs.Values.{variable_place, formal_resolves}
 
-pub are_numbers-more : (vs : List Value) (v : Value) → AreNumbers vs → HasKind types.Number v → AreNumbers (vs ++ v ∷ [])
-are_numbers-more [] v h k = (k, tt)
-are_numbers-more (x ∷ vs) v h k = (h.0, are_numbers-more vs v h.1 k)
+pub are_numbers_more : (vs : List Value) (v : Value) → AreNumbers vs → HasKind types.Number v → AreNumbers (vs ++ v ∷ [])
+are_numbers_more [] v h k = (k, tt)
+are_numbers_more (x ∷ vs) v h k = (h.0, are_numbers_more vs v h.1 k)
 
 -- what waits has room
 pub counts_within : (most : ℕ) (k : List Item) → AreShallow most k → counts_in k ≤ most
@@ -219,8 +219,8 @@ module _ (sc : Scopes) (context : Context) (ps : List Placed) (level most : ℕ)
       let us = vs ++ v ∷ [] in
       let longer : length us ≡ length vs + 1 = length-append vs (v ∷ []) in
       after_rest (value_at pc slots v (operands vs begun) m sh.0 sh.1)
-      (subst (λ o. Coming (settle_line sc es phrases k us) m o) (operands-more vs v begun)
-      (c us (subst (λ z. FormatIs sc context ps level format phrases (z + exprs_count es)) (sym longer) is) (are_numbers-more vs v fits sh.2)
+      (subst (λ o. Coming (settle_line sc es phrases k us) m o) (operands_more vs v begun)
+      (c us (subst (λ z. FormatIs sc context ps level format phrases (z + exprs_count es)) (sym longer) is) (are_numbers_more vs v fits sh.2)
       (omega (arith, room, longer))))
   item_stands phrases vs (busy x) es k format m n next pc slots sh l h is whole fits follows room c =
       stays_here pc slots (rests.writing phrases vs x es k) (heads_ask types.Number x pc slots (operands vs (line_begun format (pend k))) m sh)
@@ -246,8 +246,8 @@ module _ (sc : Scopes) (context : Context) (ps : List Placed) (level most : ℕ)
   line_at (tree.more e es) phrases k format f n next l h whole follows vs is fits room =
       let begun = line_begun format (pend k) in
       let more : length vs + (exprs_count es + 1) ≡ length vs + 1 + exprs_count es = omega arith in
-      let deep : 1 ≤ depth e = depth-positive e in
-      let c = settle_at sc context ps level most types.Number e f l.0 l.0 l.1 stop (operands vs begun) (omega (arith, room, operands-length vs begun)) in
+      let deep : 1 ≤ depth e = depth_positive e in
+      let c = settle_at sc context ps level most types.Number e f l.0 l.0 l.1 stop (operands vs begun) (omega (arith, room, operands_length vs begun)) in
       after_rest c.leads
       (item_stands phrases vs (settle sc e) es k format l.0 n next c.at c.with_slots c.shows l.2 h (subst (λ z. FormatIs sc context ps level format phrases z) more is) whole fits follows
       (omega (arith, room, deep)) (line_at es phrases k format l.0 n next l.2 h whole follows))

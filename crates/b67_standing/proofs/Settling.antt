@@ -31,9 +31,9 @@ use Rattle.b67_templates.specs.Events.{names_of, AreSoMany, OnEventsAt}
 use Rattle.b67_templates.specs.Depths.{depth}
 use Rattle.b67_standing.specs.Stepping.{Slot, operand, reference, mark, SlotsHaveRoom, push_number, push_truth, summon, there, first}
 use Rattle.b67_standing.specs.Standing.{given_slots, call_begun, ActualsAreGiven}
-use Rattle.b67_standing.proofs.Leading.{depth-positive}
+use Rattle.b67_standing.proofs.Leading.{depth_positive}
 use Rattle.b67_standing.proofs.OnEvents.{all_named, events_named, events_there}
-use Rattle.b67_standing.proofs.Actuals.{given_slots-length, Filled, ComesFilled, after_filled, ActualsOn, actual_stands, array_stands, event_stands, name_stands}
+use Rattle.b67_standing.proofs.Actuals.{given_slots_length, Filled, ComesFilled, after_filled, ActualsOn, actual_stands, array_stands, event_stands, name_stands}
 use Rattle.b67_standing.proofs.Values.{variable_reads, formal_reads, procedure_enters}
 use Rattle.b67_standing.proofs.Halves.{Comes, here, after, of_kind, negated_at, inverted_at, left_at, condition_at}
 use Rattle.b67_standing.proofs.Subscripts.{begun_at, subscript_at}
@@ -121,7 +121,7 @@ module _ (sc : Scopes) (context : Context) (ps : List Placed) (level most : ℕ)
     settle_at k (tree.two op a b) f t u h g below room =
         let c = settle_at (taken_by op) a f h.0 h.0 h.4 stop below (omega (arith, room)) in
         of_kind sc context ps level most f below (left_of op (settle sc a) b (settle sc b)) below u h.3
-        (after sc context ps level most (given_by op) c.leads (left_at sc context ps level most op (settle sc a) b (settle sc b) c.at c.with_slots below h.0 h.1 h.2 t u c.shows h.5 h.6 (omega (arith, room, depth-positive a))
+        (after sc context ps level most (given_by op) c.leads (left_at sc context ps level most op (settle sc a) b (settle sc b) c.at c.with_slots below h.0 h.1 h.2 t u c.shows h.5 h.6 (omega (arith, room, depth_positive a))
         (λ o r. settle_at (taken_by op) b h.1 h.2 h.2 h.6 stop o r) h.7 g))
     settle_at k (tree.if c x y spot) f t u h g below room =
         let d = settle_at types.Truth c f h.0 h.0 h.4 stop below (omega (arith, room)) in
@@ -155,8 +155,8 @@ module _ (sc : Scopes) (context : Context) (ps : List Placed) (level most : ℕ)
         }
     actuals_at (tree.more e es) (sort ∷ sorts) (wants.value kind ∷ later) all f filled begun l gs before wants_are fit room =
         let floor = given_slots before gs begun in
-        let deep : 1 ≤ depth e = depth-positive e in
-        let c = settle_at kind e f l.0 l.0 l.2 stop floor (omega (arith, room, given_slots-length before gs begun)) in
+        let deep : 1 ≤ depth e = depth_positive e in
+        let c = settle_at kind e f l.0 l.0 l.2 stop floor (omega (arith, room, given_slots_length before gs begun)) in
         let settled : Bool → HalfGiven = λ b. actual_of sc b e (settle sc e) gs sorts es (settle_actuals sc es sorts) in
         subst (λ b. ComesFilled sc context ps level most all (settled b) f floor begun filled) (sym l.1)
         (after_filled sc context ps level most all (settled true) begun filled c.leads
@@ -171,7 +171,7 @@ module _ (sc : Scopes) (context : Context) (ps : List Placed) (level most : ℕ)
         (record { wants_are = wants_are; fit = fit; actuals = l.3; room = omega (arith, room) }) l.2 (actuals_at es sorts later all l.0 filled begun l.3))
     actuals_at (tree.more e es) (sort ∷ sorts) (wants.by_name kind ∷ later) all f filled begun l gs before wants_are fit room =
         let floor = given_slots before gs begun in
-        let deep : 1 ≤ depth e = depth-positive e in
+        let deep : 1 ≤ depth e = depth_positive e in
         let settled : Bool → HalfGiven = λ b. actual_of sc b e (settle sc e) gs sorts es (settle_actuals sc es sorts) in
         subst (λ b. ComesFilled sc context ps level most all (settled b) f floor begun filled) (sym l.1)
         (name_stands sc context ps level most all gs before kind later sorts es f l.0 filled begun e

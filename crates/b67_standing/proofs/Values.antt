@@ -16,7 +16,7 @@ use Rattle.algol_tree.specs.Types.{given_by, taken_by}
 use Rattle.b67_num.specs.declared.NumFault.{NumFault}
 use Rattle.b67_num.specs.declared.Calculation.TheVariants as calculation
 use Rattle.b67_num.specs.Whole.{calculated, negation_of}
-use Rattle.b67_num.proofs.WholeLaws.{calculated-fits, negation_of-fits}
+use Rattle.b67_num.proofs.WholeLaws.{calculated_fits, negation_of_fits}
 use Rattle.algol_meaning.specs.Value.{Value, number, truth, whole_of}
 use Rattle.algol_meaning.specs.Operators.{numeric, logical, result_of}
 use Rattle.algol_meaning.specs.Rest.{own, Given, refers, names, val, busy, read, enter, HalfGiven, resolve, at, aims}
@@ -46,12 +46,12 @@ logical_kind b x e = subst (HasKind types.Truth) (ok_is (logical b) refl e) tt
 
 -- the result of an operator is of its kind
 pub result_kind : (op : Op) (v w x : Value) → result_of op v w ≡ Ok x → HasKind (given_by op) x
-result_kind operators.Add v w x e = numeric_whole (calculated calculation.Sum (whole_of v) (whole_of w)) x (calculated-fits calculation.Sum (whole_of v) (whole_of w)) e
-result_kind operators.Sub v w x e = numeric_whole (calculated calculation.Difference (whole_of v) (whole_of w)) x (calculated-fits calculation.Difference (whole_of v) (whole_of w)) e
-result_kind operators.Mul v w x e = numeric_whole (calculated calculation.Product (whole_of v) (whole_of w)) x (calculated-fits calculation.Product (whole_of v) (whole_of w)) e
-result_kind operators.Over v w x e = numeric_whole (calculated calculation.WholeQuotient (whole_of v) (whole_of w)) x (calculated-fits calculation.WholeQuotient (whole_of v) (whole_of w)) e
-result_kind operators.Div v w x e = numeric_whole (calculated calculation.TruncatedQuotient (whole_of v) (whole_of w)) x (calculated-fits calculation.TruncatedQuotient (whole_of v) (whole_of w)) e
-result_kind operators.Mod v w x e = numeric_whole (calculated calculation.Remainder (whole_of v) (whole_of w)) x (calculated-fits calculation.Remainder (whole_of v) (whole_of w)) e
+result_kind operators.Add v w x e = numeric_whole (calculated calculation.Sum (whole_of v) (whole_of w)) x (calculated_fits calculation.Sum (whole_of v) (whole_of w)) e
+result_kind operators.Sub v w x e = numeric_whole (calculated calculation.Difference (whole_of v) (whole_of w)) x (calculated_fits calculation.Difference (whole_of v) (whole_of w)) e
+result_kind operators.Mul v w x e = numeric_whole (calculated calculation.Product (whole_of v) (whole_of w)) x (calculated_fits calculation.Product (whole_of v) (whole_of w)) e
+result_kind operators.Over v w x e = numeric_whole (calculated calculation.WholeQuotient (whole_of v) (whole_of w)) x (calculated_fits calculation.WholeQuotient (whole_of v) (whole_of w)) e
+result_kind operators.Div v w x e = numeric_whole (calculated calculation.TruncatedQuotient (whole_of v) (whole_of w)) x (calculated_fits calculation.TruncatedQuotient (whole_of v) (whole_of w)) e
+result_kind operators.Mod v w x e = numeric_whole (calculated calculation.Remainder (whole_of v) (whole_of w)) x (calculated_fits calculation.Remainder (whole_of v) (whole_of w)) e
 result_kind operators.Lss v w x e = logical_kind _ x e
 result_kind operators.Leq v w x e = logical_kind _ x e
 result_kind operators.Eql v w x e = logical_kind _ x e
@@ -64,7 +64,7 @@ result_kind operators.Imp v w x e = logical_kind _ x e
 result_kind operators.Eqv v w x e = logical_kind _ x e
 
 pub negation_whole : (z : ℤ) → IsWholeNumber z → IsWholeNumber (negation_of z)
-negation_whole z h = negation_of-fits z h
+negation_whole z h = negation_of_fits z h
 
 -- a count that is above 0 is whole without one turn too
 pub less_whole : (z : ℤ) → IsWholeNumber z → int_lt (pos 0) z ≡ true → IsWholeNumber (z -ℤ pos 1)

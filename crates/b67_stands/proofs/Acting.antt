@@ -9,20 +9,22 @@ use Rattle.b67_schedule.specs.Schedules.{entries, ScheduleModel}
 use Rattle.b67_segment.specs.declared.code.Code.{Code}
 use Rattle.b67_table.specs.declared.ProcessState.{ProcessState}
 use Rattle.b67_table.specs.Image.{Image, is_able, is_live}
-use Rattle.b67_table.specs.Ending.{ImageEnd, image_end, may_act, failed}
-use Rattle.b67_table.specs.Ending as ending
+use Rattle.b67_table.specs.Ending.{image_end, may_act, failed}
 use Rattle.b67_table.specs.Outcome.{gives, faults, interrupts, limit}
 use Rattle.b67_table.specs.Runs.{Plains, count_of, acts, fails}
 use Rattle.b67_table.specs.Runs as runs
 use Rattle.b67_table.specs.Sound.{Sound}
 use Rattle.b67_table.specs.Table.{table, plain}
 use Rattle.b67_table.specs.Valid.{IsValid}
+use Rattle.b67_table.proofs.Cited.{may_by}
+use Rattle.b67_table.proofs.Waking.{able_live}
+use Rattle.b67_table.proofs.Withdrawing.{length_set}
 use Rattle.b67_deeds.specs.declared.Letter.{Letter}
 use Rattle.b67_letters.specs.Entries.{letters}
 use Rattle.b67_letters.specs.Letters.{letter}
 use Rattle.b67_letters.proofs.Lettered.{actions_have_letters}
 use Rattle.b67_intrinsics.specs.Called.{ImageIsLeft}
-use Rattle.b67_action.specs.Able.{number_times, one_if, able_in, newly, AbleAfter}
+use Rattle.b67_action.specs.Able.{one_if, able_in, AbleAfter}
 use Rattle.b67_action.specs.declared.done.Done.{Done}
 use Rattle.b67_action.specs.declared.done.Done.TheVariants as dones
 use Rattle.b67_machine.specs.declared.entry.Performed.{Performed}
@@ -32,25 +34,23 @@ use Rattle.b67_machine.specs.Replaying.{MachineStands}
 use Rattle.b67_machine.specs.Stepping.{MachineActs, StepsBy, MachineFollows, MachineGoes, operators_in, limit_of, lacks}
 use Rattle.b67_machine.proofs.Ends.{same_end}
 use Rattle.b67_machine.proofs.Ends as machine
+use Rattle.b67_machine.proofs.Chains.{counts_then}
+use Rattle.b67_machine.proofs.Enabling.{able_from}
 use Rattle.b67_joining.specs.Joining.{joining}
 use Rattle.b67_stands.specs.Tails.{with_more, tails_without, tail_of}
 use Rattle.b67_stands.specs.Going.{LeadsOn}
 use Rattle.b67_stands.proofs.Steps.{Same, number_from, number_within}
 use Rattle.b67_stands.proofs.Past.{plains_same}
-use Rattle.b67_stands.proofs.Advancing.{runs_take_operators, runs_take_entries, able_lives}
+use Rattle.b67_stands.proofs.Advancing.{runs_take_operators, runs_take_entries}
 use Rattle.b67_stands.specs.Running.{Running, answer_of}
 use Rattle.b67_stands.specs.Placing.{IsOut, ProcessesPlaced}
 use Rattle.b67_stands.specs.Stands.{Stands, AtLimit}
 use Rattle.b67_stands.specs.Calls.{LetterNoted, done_is_action, PlantEnters, Records, ActsOnce}
 use Rattle.b67_stands.proofs.Tails.{sum_more, length_more, sum_without, length_without}
-use Rattle.b67_stands.proofs.Counts.{counts_more, counts_entry, counts_then, no_counts, count_same}
-use Rattle.b67_stands.proofs.Places.{placed_acted, held_able, length_set, able_more, able_without}
+use Rattle.b67_stands.proofs.Counts.{counts_more, counts_entry, no_counts, count_same}
+use Rattle.b67_stands.proofs.Places.{placed_acted, held_able, able_more, able_without}
 use Rattle.b67_stands.proofs.Ends.{GoesOn, goes_on, budget_ends, limit_ends, lack_ends}
 use Rattle.b67_stands.proofs.Showing.{shows_is, shows_by, shows_left}
-
-pub may_by : (img : Image) (p : ℕ) → image_end img ≡ None → is_able (numbered img.states p) ≡ true → may_act img p ≡ true
-unfolding may_act
-may_by img p e able = ap (λ (o : Option ImageEnd). ending.goes_on o (is_able (numbered img.states p))) e ∙ able
 
 by_zero : (k : ℕ) → (k ≢ 0 → ⊥) → k ≡ 0
 by_zero zero h = refl
@@ -62,21 +62,6 @@ letter_more : (l : Letter) (here : Option Letter) (before after : List Letter) (
 letter_more l here before after newest is noted are =
     ap (λ (o : Option Letter). o ∷ newest) is ∙ ap (λ (os : List (Option Letter)). Some l ∷ os) are
     ∙ sym (ap (λ (ls : List Letter). map Some (reverse ls)) noted ∙ ap (λ (ls : List Letter). map Some ls) (reverse-append before (l ∷ [])))
-
--- from an image with the same states
-able_from : (a b after : Image) (p : ℕ) (released : List ℕ) → b.states ≡ a.states → b.started ≡ a.started → AbleAfter b after p released → AbleAfter a after p released
-able_from a b after p released s n x =
-    let same : newly b.started after.started ≡ newly a.started after.started = ap (λ (k : ℕ). newly k after.started) n in
-    record {
-      others = λ q h.
-          let then = x.others q h in
-          let was : one_if (able_in b q) ≡ one_if (able_in a q) = ap (λ (ss : List ProcessState). one_if (is_able (numbered ss q))) s in
-          let more : number_times q (newly b.started after.started) ≡ number_times q (newly a.started after.started) = ap (number_times q) same in
-          omega (arith, then, was, more);
-      own = x.own;
-      own_new = ap (number_times p) (sym same) ∙ x.own_new;
-      grows = omega (arith, x.grows, n);
-    }
 
 -- what is given of an act
 pub record Given (code : Code) (budget : ℕ) (old : Running) (p : ℕ) (performed : Performed) (new : Running) : Type 0 where
@@ -104,7 +89,7 @@ module _ (code : Code) (budget : ℕ) (old : Running) (p : ℕ) (performed : Per
   shown = shows_is old.machine.lacked x.stands.image old.machine.image g.lacked x.stands.shows
 
   live : is_live (numbered old.machine.image.states p) ≡ true
-  live = able_lives (numbered old.machine.image.states p) able
+  live = able_live (numbered old.machine.image.states p) able
 
   least : 1 ≤ p
   least = number_from old.machine.image p live

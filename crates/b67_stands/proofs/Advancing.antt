@@ -12,7 +12,7 @@ use Rattle.b67_table.specs.declared.ProcessState.{ProcessState}
 use Rattle.b67_table.specs.declared.ProcessState.TheVariants as states
 use Rattle.b67_table.specs.Effect.{Effect}
 use Rattle.b67_table.specs.Effect as effects
-use Rattle.b67_table.specs.Ending.{ImageEnd, finished, has_ended, image_end_by, image_end, may_act, goes_on, failed}
+use Rattle.b67_table.specs.Ending.{finished, has_ended, image_end_by, image_end, may_act, goes_on, failed}
 use Rattle.b67_table.specs.Image.{Image, Failure, is_able, is_live, private_of, with_private, with_effect}
 use Rattle.b67_table.specs.Outcome.{Outcome, gives, limited}
 use Rattle.b67_table.specs.Private.{floor}
@@ -24,15 +24,20 @@ use Rattle.b67_table.specs.Valid.{IsValid}
 use Rattle.b67_table.proofs.AllValid.{operators_keep_valid}
 use Rattle.b67_table.proofs.Limit.{limit_comes_last, fits, new_of}
 use Rattle.b67_table.proofs.Privacy.{next_private, raw_is, put_by}
+use Rattle.b67_action.proofs.Lent.{private_of_plain}
+use Rattle.b67_action.proofs.Runs.{plains_then}
+use Rattle.b67_machine.proofs.Plainly.{live_there}
 use Rattle.b67_stands.specs.Tails.{more_at, none_at, at_place, with_more}
 use Rattle.b67_stands.specs.Going.{Leads, OneMore, LeadsOn, LeadsTo, RunsTakeOperators, RunsTakeEntries}
-use Rattle.b67_stands.proofs.Steps.{one_same, private_of_plain, plain_of, lives, number_from, registers_of, others_next, commutes}
+use Rattle.b67_stands.proofs.Steps.{one_same, plain_of, lives, number_from, others_next, commutes}
 use Rattle.b67_table.proofs.FirstValid.{valid_stands}
+use Rattle.b67_table.proofs.Cited.{may_able}
+use Rattle.b67_table.proofs.Waking.{able_live}
 use Rattle.b67_deeds.specs.declared.Letter.{Letter}
 use Rattle.b67_letters.specs.Entries.{letters}
 use Rattle.b67_letters.specs.Letters.{letter}
 use Rattle.b67_stands.proofs.StayApart.{letters_stay_apart}
-use Rattle.b67_stands.proofs.Past.{plains_same, and_then, none_stays}
+use Rattle.b67_stands.proofs.Past.{plains_same, none_stays}
 use Rattle.b67_stands.proofs.Tailing.{tails_same, HasNone, has_none_on, before_tails, tail_grows, tail_first}
 
 -- ---- more operators
@@ -83,7 +88,7 @@ unfolding failed table
 failed_plain code p q kind a b v e t =
     let own = private_of_plain code a q e in
     let live = lives code a b q t in
-    let r = registers_of code a q v live in
+    let r = live_there code a q v live in
     let n = next_private code a q r.0 r.1 own in
     let new = new_of (stack_length q) (raw code a q) b t in
     let put = put_by a b q (floor r.0) (n.change n.next (private_of a r.0)) (sym (raw_is code a q r.0 live r.1 n) ∙ new.0) in
@@ -127,7 +132,7 @@ module _ (code : Code) (schedule : List ℕ) (sound : Sound code) (p q : ℕ) (h
   one_letter : (a b : Image) → Reached code schedule a → plain code a q ≡ true → table code a q ≡ gives b → letter code a p ≡ letter code b p
   one_letter a b r e t =
       let live = lives code a b q t in
-      let o = registers_of code a q r.valid live in
+      let o = live_there code a q r.valid live in
       sym (letters_stay_apart code p q o.0 a b h (valid_stands code a q o.0 r.valid live o.1) e t
       (λ x touches mine. h (sound.apart schedule r.tails a r.leads.run p q x o.0 touches (record { live = live; is = o.1 }) mine)))
 
@@ -213,27 +218,11 @@ may_same a b p s f =
     ap (λ (ss : List ProcessState). goes_on (if has_ended (numbered ss 1) then Some finished else image_end_by b.fault ss) (is_able (numbered ss p))) s
     ∙ ap (λ (o : Option Failure). goes_on (if has_ended (numbered a.states 1) then Some finished else image_end_by o a.states) (is_able (numbered a.states p))) f
 
-able_by : (o : Option ImageEnd) (b : Bool) → goes_on o b ≡ true → b ≡ true
-able_by None b e = e
-able_by (Some x) b e = cc
-
-pub may_able : (a : Image) (p : ℕ) → may_act a p ≡ true → is_able (numbered a.states p) ≡ true
-unfolding may_act
-may_able a p e = able_by (image_end a) (is_able (numbered a.states p)) e
-
-pub able_lives : (o : Option ProcessState) → is_able o ≡ true → is_live o ≡ true
-able_lives None e = cc
-able_lives (Some states.Able) e = refl
-able_lives (Some (states.WaitsFor at)) e = cc
-able_lives (Some states.WaitsAny) e = cc
-able_lives (Some (states.Procures at)) e = cc
-able_lives (Some states.Ended) e = cc
-
 acts_valid : (code : Code) (p : ℕ) (a b : Image) → IsValid code a → is_able (numbered a.states p) ≡ true → ProcessActs code p a b → length b.rows ≤ row_limit → IsValid code b
 acts_valid code p a b v able (acts e t) few = operators_keep_valid.able code a b p v able t few
 acts_valid code p a b v able (fails kind t) few = operators_keep_valid.failed code a p kind v
 
-none_there : (tails : List ℕ) (k : ℕ) → at_place (none_at tails k) k ≡ 0
+pub none_there : (tails : List ℕ) (k : ℕ) → at_place (none_at tails k) k ≡ 0
 none_there [] k = refl
 none_there (t ∷ ts) zero = refl
 none_there (t ∷ ts) (suc k) = none_there ts k
@@ -251,7 +240,7 @@ entered code schedule tails a quiet b k n leads sound may plains act valid =
     let f = tail_first code 1 k r.before_tails a tails leads.valid r.after in
     let v = (plains_same code (1 + k) r.before_tails f.between (at_place tails k) leads.valid f.first).valid in
     let g = before_tails code (1 + k) 1 f.between a quiet (none_at tails k) n v f.rest (has_none tails k) plains in
-    let all = and_then code (1 + k) r.before_tails f.between g.between (at_place tails k) n f.first g.first in
+    let all = plains_then code (1 + k) r.before_tails f.between g.between (at_place tails k) n f.first g.first in
     let start : Reached code schedule r.before_tails = record {
       tails = [];
       leads = record {
@@ -285,7 +274,7 @@ entered code schedule tails a quiet b k n leads sound may plains act valid =
 taken : (code : Code) (schedule tails : List ℕ) (a quiet b : Image) (p n : ℕ) (leads : Leads code schedule tails a) → Sound code → may_act a p ≡ true
     → Plains code p a n quiet → ProcessActs code p quiet b → IsValid code b → LeadsTo code schedule tails a leads p n quiet b
 taken code schedule tails a quiet b zero n leads sound may plains act valid =
-    absurd (omega (arith, number_from a 0 (able_lives (numbered a.states 0) (may_able a 0 may))))
+    absurd (omega (arith, number_from a 0 (able_live (numbered a.states 0) (may_able a 0 may))))
 taken code schedule tails a quiet b (suc k) n leads sound may plains act valid =
     let same : suc k ≡ 1 + k = omega arith in
     let e = subst (λ (p : ℕ). (to : Leads code (schedule ++ p ∷ []) (none_at tails k) b) × OneMore p (at_place tails k + n + 1) quiet leads to) (sym same)

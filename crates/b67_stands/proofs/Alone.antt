@@ -20,6 +20,8 @@ use Rattle.b67_table.specs.Runs.{Runs, begin, entry, RunEntry, Plains, TableRun,
 use Rattle.b67_table.specs.Runs as runs
 use Rattle.b67_table.specs.Sound.{Sound}
 use Rattle.b67_table.specs.Table.{table, plain}
+use Rattle.b67_table.proofs.Cited.{history_within, may_by}
+use Rattle.b67_table.proofs.Withdrawing.{length_set}
 use Rattle.b67_action.specs.Able.{one_if, able_in, newly}
 use Rattle.b67_action.specs.declared.done.Done.{Done}
 use Rattle.b67_action.specs.declared.done.Done.TheVariants as dones
@@ -38,12 +40,10 @@ use Rattle.b67_stands.specs.Picked.{Pick, if_started, to_rear, waiting_after}
 use Rattle.b67_stands.specs.Stands.{Stands}
 use Rattle.b67_stands.specs.Calls.{IsFirst, TakesOne, done_is_action, Records, ActsOnce}
 use Rattle.b67_stands.specs.Alone.{IsNext, ByOne, KeepsByOne, TurnsKeepByOne}
-use Rattle.b67_stands.proofs.Counts.{entries_few}
 use Rattle.b67_stands.proofs.Firsts.{none_out}
-use Rattle.b67_stands.proofs.Places.{got_times, waiting_able, holder_own, holder_other, length_set}
+use Rattle.b67_stands.proofs.Places.{got_times, waiting_able, holder_own, holder_other}
 use Rattle.b67_stands.proofs.Taking.{number_of}
 use Rattle.b67_stands.proofs.Ends.{GoesOn, goes_on, budget_ends, limit_ends, lack_ends}
-use Rattle.b67_stands.proofs.Acting.{may_by}
 use Rattle.b67_stands.proofs.Idle.{some_out}
 
 -- ---- at first
@@ -177,7 +177,7 @@ module _ (code : Code) (budget : ℕ) (pick : Pick) (old new : Running) (me p : 
         length-reverse one.history,
         ap length r.order,
         length-reverse r.history,
-        entries_few code r.history r.counts r.before_tails r.runs,
+        history_within code r.history r.counts r.before_tails r.runs,
         stands.spends,
         g.less,
         small,
@@ -187,9 +187,6 @@ module _ (code : Code) (budget : ℕ) (pick : Pick) (old new : Running) (me p : 
   takes_are : new.takes ≡ length one.history + 1
   takes_are =
       turn.takes ∙ ap counted_on next.takes ∙ counted_below (length one.history) (nat_le most_takes (length one.history)) refl few
-
-  abbrev place : ℕ
-  place = pick (length (waiting_after pick one.runs)) (length one.history)
 
   place_is : pick (length old.waiting) old.takes ≡ pick (length (waiting_after pick one.runs)) (length one.history)
   place_is = ap (λ (xs : List ℕ). pick (length xs) old.takes) next.waiting ∙ ap (pick (length (waiting_after pick one.runs))) next.takes

@@ -1,13 +1,11 @@
 -- How many operators are each process's after plain operators, and after an entry.
-use Rattle.std.specs.Prelude.{sum, nat_eq, if◌then◌else◌}
-use Rattle.std.proofs.Common.{◌≡◌, ◌≢◌, refl, sym, ap, subst, ◌∙◌, ℕ, ◌+◌, ◌≤◌, Bool, true, false, List, [], ◌∷◌, length, arith}
+use Rattle.std.specs.Prelude.{nat_eq, if◌then◌else◌}
+use Rattle.std.proofs.Common.{◌≡◌, ◌≢◌, refl, sym, ap, subst, ◌∙◌, ℕ, ◌+◌, ◌≤◌, Bool, List, ◌∷◌, arith}
 use Rattle.std.proofs.Math.Decide.{ℕ_discrete}
 use Rattle.std.proofs.lemmas.Bool.{eq-eqb, ne_eqb}
-use Rattle.std.proofs.lemmas.List.Sums.{sum_by-cons}
-use Rattle.b67_segment.specs.declared.code.Code.{Code}
-use Rattle.b67_table.specs.Image.{Image}
-use Rattle.b67_table.specs.Runs.{Runs, begin, entry, count_of}
+use Rattle.b67_table.specs.Runs.{count_of}
 use Rattle.b67_machine.specs.Kept.{Counts, operators_counted}
+use Rattle.b67_machine.proofs.Chains.{counts_then}
 use Rattle.b67_stands.specs.Tails.{with_more, tails_without, tail_of}
 use Rattle.b67_stands.proofs.Tails.{tail_more_own, tail_more_other, tail_without_own, tail_without_other}
 
@@ -16,7 +14,7 @@ use Rattle.b67_stands.proofs.Tails.{tail_more_own, tail_more_other, tail_without
 has_none : (c p k : ℕ) → p ≢ k → (if nat_eq p k then c else 0) ≡ 0
 has_none c p k h = ap (λ (b : Bool). if b then c else 0) (ne_eqb p k h)
 
-has_some : (c p k : ℕ) → p ≡ k → (if nat_eq p k then c else 0) ≡ c
+pub has_some : (c p k : ℕ) → p ≡ k → (if nat_eq p k then c else 0) ≡ c
 has_some c p k e = ap (λ (b : Bool). if b then c else 0) (eq-eqb p k e)
 
 -- ---- counts after plain operators, and after an entry
@@ -43,13 +41,6 @@ counts_entry before after tails h counts p n c is q = by (ℕ_discrete q p)
         subst (λ (k : ℕ). operators_counted after k ≡ count_of k (p ∷ h) ((tail_of tails p + n + 1) ∷ counts) + tail_of (tails_without tails p) k) (sym e) here
     by (no g) = omega (arith, c.others q g, is q, has_none (tail_of tails p + n + 1) q p g, tail_without_other tails p q g)
 
--- two counts after one another
-pub counts_then : (a b c : List ℕ) (p m n : ℕ) → Counts a p m b → Counts b p n c → Counts a p (m + n) c
-counts_then a b c p m n f g = record {
-  own = omega (arith, f.own, g.own);
-  others = λ q h. g.others q h ∙ f.others q h;
-}
-
 -- none more
 pub no_counts : (before between after : List ℕ) (p n : ℕ) → Counts before p n between → Counts between p 0 after → Counts before p n after
 no_counts before between after p n c d =
@@ -58,20 +49,3 @@ no_counts before between after p n c d =
 -- by the same history
 pub count_same : (q : ℕ) (h g c d : List ℕ) → h ≡ g → c ≡ d → count_of q h c ≡ count_of q g d
 count_same q h g c d e f = ap (λ (x : List ℕ). count_of q x c) e ∙ ap (count_of q g) f
-
--- no process has more than there are
-part : (b : Bool) (n x s : ℕ) → x ≤ s → (if b then n else 0) + x ≤ n + s
-part true n x s h = omega (arith, h)
-part false n x s h = omega (arith, h)
-
-pub count_most : (p : ℕ) (h numbers : List ℕ) → count_of p h numbers ≤ sum numbers
-count_most p [] numbers = omega arith
-count_most p (q ∷ h) [] = omega arith
-count_most p (q ∷ h) (n ∷ numbers) =
-    omega (arith, part (nat_eq p q) n (count_of p h numbers) (sum numbers) (count_most p h numbers), sum_by-cons (λ (x : ℕ). x) n numbers)
-
--- each entry has an operator at least
-pub entries_few : (code : Code) (h numbers : List ℕ) (img : Image) → Runs code h numbers img → length h ≤ sum numbers
-entries_few code h numbers img begin = omega arith
-entries_few code h numbers img (entry {h = g} {counts = ns} {a = a} {n = n} before e) =
-    omega (arith, entries_few code g ns a before, sum_by-cons (λ (x : ℕ). x) (n + 1) ns)

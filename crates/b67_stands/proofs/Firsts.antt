@@ -1,5 +1,5 @@
 -- A plant before its first take stands.
-use Rattle.std.specs.Prelude.{map, replicate, reverse, slice_get}
+use Rattle.std.specs.Prelude.{map, replicate, reverse}
 use Rattle.std.proofs.Common.{◌≡◌, inl, refl, sym, ap, subst, ◌∙◌, true≢false, ℕ, zero, suc, List, [], ◌∷◌, length, Some, None, arith}
 use Rattle.std.proofs.lemmas.List.{length-replicate}
 use Rattle.b67_deeds.specs.declared.Letter.{Letter}
@@ -11,7 +11,7 @@ use Rattle.b67_table.specs.Limits.{most_processes}
 use Rattle.b67_table.specs.Runs.{begin, none}
 use Rattle.b67_table.specs.Valid.{IsValid}
 use Rattle.b67_action.specs.Able.{number_times}
-use Rattle.b67_machine.specs.Kept.{or_none}
+use Rattle.b67_machine.proofs.Begun.{zero_at}
 use Rattle.b67_stands.specs.Tails.{tail_of}
 use Rattle.b67_joining.proofs.Joining.{first_queue}
 use Rattle.b67_stands.specs.Running.{Running}
@@ -23,12 +23,6 @@ use Rattle.b67_stands.proofs.Showing.{shows_by}
 no_tail : (q : ℕ) → tail_of [] q ≡ 0
 no_tail zero = refl
 no_tail (suc k) = refl
-
--- nobody is out
-zero_at : (n k : ℕ) → or_none (slice_get (replicate n 0) k) ≡ 0
-zero_at zero k = refl
-zero_at (suc n) zero = refl
-zero_at (suc n) (suc k) = zero_at n k
 
 pub none_out : (n p : ℕ) → holder_of (replicate n 0) p ≡ 0
 none_out n zero = refl

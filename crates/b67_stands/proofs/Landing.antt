@@ -10,6 +10,7 @@ use Rattle.b67_table.specs.Ending.{image_end}
 use Rattle.b67_table.specs.Image.{Image, is_able, is_live}
 use Rattle.b67_table.specs.Runs.{Plains, count_of}
 use Rattle.b67_table.specs.Valid.{IsValid}
+use Rattle.b67_table.proofs.Waking.{able_live}
 use Rattle.b67_action.specs.Able.{one_if, able_in}
 use Rattle.b67_machine.specs.Kept.{MachineModel}
 use Rattle.b67_machine.specs.Stepping.{MachineGoes}
@@ -19,7 +20,7 @@ use Rattle.b67_stands.specs.Tails.{with_more, tail_of}
 use Rattle.b67_stands.specs.Going.{LeadsOn}
 use Rattle.b67_stands.proofs.Steps.{Same, number_from, number_within}
 use Rattle.b67_stands.proofs.Past.{plains_same}
-use Rattle.b67_stands.proofs.Advancing.{runs_take_operators, able_lives}
+use Rattle.b67_stands.proofs.Advancing.{runs_take_operators}
 use Rattle.b67_stands.specs.Running.{Running, answer_of}
 use Rattle.b67_stands.specs.Placing.{IsOut, ProcessesPlaced}
 use Rattle.b67_stands.specs.Stands.{Stands}
@@ -50,7 +51,7 @@ module _ (code : Code) (budget : ℕ) (old : Running) (p n : ℕ) (m : MachineMo
   able = subst (λ (i : Image). able_in i p ≡ true) shown (held_able old.machine.image old.waiting old.out p (stands.placed going) held)
 
   live : is_live (numbered stands.image.states p) ≡ true
-  live = able_lives (numbered stands.image.states p) able
+  live = able_live (numbered stands.image.states p) able
 
   valid_there : IsValid code stands.image
   valid_there = subst (λ (i : Image). IsValid code i) shown stands.valid

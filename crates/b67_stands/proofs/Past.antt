@@ -1,5 +1,5 @@
 -- Many plain operators of two processes.
-use Rattle.std.proofs.Common.{◌≡◌, ◌≢◌, refl, subst, ℕ, ◌+◌, true, arith}
+use Rattle.std.proofs.Common.{◌≡◌, ◌≢◌, refl, ℕ, true, arith}
 use Rattle.b67_segment.specs.declared.code.Code.{Code}
 use Rattle.b67_table.specs.Image.{Image}
 use Rattle.b67_table.specs.Outcome.{gives}
@@ -12,12 +12,6 @@ pub plains_same : (code : Code) (p : ℕ) (a b : Image) (n : ℕ) → IsValid co
 plains_same code p a b n v stay = same_self code a v
 plains_same code p a b n v (go {b = c} e t rest) =
     let one = one_same code p a c v e t in same_then code a c b one (plains_same code p c b _ one.valid rest)
-
-pub and_then : (code : Code) (p : ℕ) (a b c : Image) (m n : ℕ) → Plains code p a m b → Plains code p b n c → Plains code p a (m + n) c
-and_then code p a b c m n stay more = subst (λ (k : ℕ). Plains code p a k c) (omega arith) more
-and_then code p a b c m n (go {b = d} {n = l} e t rest) more =
-    let there : l + n + 1 ≡ l + 1 + n = omega arith in
-    subst (λ (k : ℕ). Plains code p a k c) there (go e t (and_then code p d b c l n rest more))
 
 pub none_stays : (code : Code) (p : ℕ) (a b : Image) (n : ℕ) → Plains code p a n b → n ≡ 0 → a ≡ b
 none_stays code p a b n stay e = refl

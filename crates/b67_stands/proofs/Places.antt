@@ -1,5 +1,5 @@
 -- Who is in the queue, who is out, and who has a tail.
-use Rattle.std.specs.Prelude.{slice_get, slice_set, remove}
+use Rattle.std.specs.Prelude.{slice_get, remove}
 use Rattle.std.proofs.Common.{◌≡◌, ◌≢◌, ◌⊎◌, inl, inr, refl, sym, ap, subst, ◌∙◌, ℕ, zero, suc, ◌+◌, ◌≤◌, true, List, [], ◌∷◌, ◌++◌, length, Some, arith}
 use Rattle.std.proofs.Math.Decide.{ℕ_discrete}
 use Rattle.b67_list.specs.Numbered.{numbered, set_numbered}
@@ -40,15 +40,6 @@ holder_own out p v o h = ap or_none (numbered_set out p v o h)
 
 pub holder_other : (out : List ℕ) (p q v : ℕ) → q ≢ p → holder_of (set_numbered out p v) q ≡ holder_of out q
 holder_other out p q v h = ap or_none (get_numbered_other out p q v h)
-
-pub length_set : (out : List ℕ) (p v : ℕ) → length (set_numbered out p v) ≡ length out
-length_set out zero v = refl
-length_set out (suc k) v = at out k v
-  where
-    at : (xs : List ℕ) (k v : ℕ) → length (slice_set xs k v) ≡ length xs
-    at [] k v = refl
-    at (y ∷ ys) zero v = refl
-    at (y ∷ ys) (suc k) v = let r = at ys k v in omega (arith, r)
 
 -- who waits is able, and so is who is out
 pub waiting_able : (image : Image) (waiting out : List ℕ) (p : ℕ) → ProcessesPlaced image waiting out → 1 ≤ number_times p waiting → able_in image p ≡ true

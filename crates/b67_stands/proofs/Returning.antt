@@ -5,6 +5,7 @@ use Rattle.std.proofs.Math.Decide.{ℕ_discrete}
 use Rattle.b67_list.specs.Numbered.{set_numbered}
 use Rattle.b67_segment.specs.declared.code.Code.{Code}
 use Rattle.b67_table.specs.Image.{Image}
+use Rattle.b67_table.proofs.Withdrawing.{length_set}
 use Rattle.b67_action.specs.Able.{number_times, one_if, able_in}
 use Rattle.b67_joining.proofs.Times.{here, elsewhere, times_both}
 use Rattle.b67_machine.specs.Kept.{MachineModel}
@@ -17,7 +18,7 @@ use Rattle.b67_stands.specs.Placing.{some_holder, holder_of, IsOut, ProcessesPla
 use Rattle.b67_stands.specs.Stands.{Stands}
 use Rattle.b67_stands.specs.Calls.{LandsOnce, GoesBack}
 use Rattle.b67_stands.proofs.Ends.{goes_on}
-use Rattle.b67_stands.proofs.Places.{some_is, holder_own, holder_other, length_set, held_able}
+use Rattle.b67_stands.proofs.Places.{some_is, holder_own, holder_other, held_able}
 use Rattle.b67_stands.proofs.Taking.{number_of}
 
 -- ---- where processes are

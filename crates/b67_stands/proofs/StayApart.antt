@@ -1,9 +1,9 @@
 -- An operator has the same letter whatever stands in a private part of another process that it does not touch.
-use Rattle.std.specs.Prelude.{◌&&◌}
 use Rattle.std.proofs.Common.{◌≡◌, ◌≢◌, refl, sym, ap, subst, ◌∙◌, ℕ, zero, suc, ◌+◌, ◌<◌, ◌≤◌, max, Bool, true, false, cond, List, [], take, drop, reverse, Option, Some, None, Result, Ok, Err, inl, inr, arith}
 use Rattle.std.proofs.Math.Decide.{ℕ_discrete, dec_le}
 use Rattle.std.proofs.Math.Nat.{lt_of_not-le, le-max_left, le-max_right}
 use Rattle.b67_list.specs.Numbered.{numbered}
+use Rattle.b67_list.proofs.Truths.{both}
 use Rattle.b67_word.specs.declared.Place.{Place}
 use Rattle.b67_word.specs.Word.{Word}
 use Rattle.b67_control.specs.declared.Registers.{Registers}
@@ -194,11 +194,7 @@ module _ (q : ℕ) (r : Registers) (part : Private) (img : Image) (b : Beneath i
 
 -- ---- all together
 
-both : (a b : Bool) → a && b ≡ true → a ≡ true
-both true b e = refl
-both false b e = cc
-
-live_by : (l : Bool) (e : Effect Image) (new : Image) → cond l e (effects.interrupts bad_code) ≡ effects.gives new → l ≡ true
+pub live_by : (l : Bool) (e : Effect Image) (new : Image) → cond l e (effects.interrupts bad_code) ≡ effects.gives new → l ≡ true
 live_by true e new i = refl
 live_by false e new i = cc
 

@@ -1,15 +1,14 @@
 -- What a plain operator of a process leaves as it is, and that it comes before or after another's alike.
 use Rattle.std.specs.Prelude.{◌&&◌}
-use Rattle.std.proofs.Common.{◌≡◌, ◌≢◌, refl, sym, ap, subst, ◌∙◌, ℕ, zero, suc, ◌≤◌, Bool, true, false, List, [], ◌∷◌, length, Option, Some, None, Result, Ok, cond, arith}
+use Rattle.std.proofs.Common.{◌≡◌, ◌≢◌, refl, sym, ap, subst, ◌∙◌, ℕ, ◌≤◌, Bool, true, Option, Some, None, arith}
 use Rattle.b67_list.specs.Numbered.{numbered}
 use Rattle.b67_word.specs.declared.Place.{Place}
 use Rattle.b67_control.specs.declared.Registers.{Registers}
 use Rattle.b67_ops.specs.declared.Operator.{Operator}
-use Rattle.b67_ops.specs.declared.BadCode.{BadCode}
+use Rattle.b67_ops.proofs.Cited.{same_found}
 use Rattle.b67_segment.specs.declared.code.Code.{Code}
 use Rattle.b67_table.specs.declared.ProcessState.{ProcessState}
-use Rattle.b67_table.specs.declared.InterruptKind.TheVariants.{BadCode as bad_code}
-use Rattle.b67_table.specs.Effect.{Effect, gives, interrupts}
+use Rattle.b67_table.specs.Effect.{gives}
 use Rattle.b67_table.specs.Outcome.{Outcome, limited}
 use Rattle.b67_table.specs.Outcome as outcomes
 use Rattle.b67_table.specs.Image.{Image, is_live}
@@ -25,33 +24,18 @@ use Rattle.b67_table.proofs.FirstValid.{valid_stands}
 use Rattle.b67_table.proofs.Limit.{limit_comes_last}
 use Rattle.b67_table.proofs.Lists.{numbered_from, numbered_within}
 use Rattle.b67_table.proofs.Privacy.{private_is_private, Next, next_private}
-
-both : (a b : Bool) → (a && b) ≡ true → (a ≡ true) × (b ≡ true)
-both true b e = (refl, e)
-both false b e = cc
-
-pub private_of_plain : (code : Code) (img : Image) (p : ℕ) → plain code img p ≡ true → private_next code img p ≡ true
-unfolding plain
-private_of_plain code img p e = (both (private_next code img p) (is_new (table code img p)) e).0
+use Rattle.b67_action.proofs.Lent.{private_of_plain}
+use Rattle.b67_machine.proofs.Plainly.{live_there}
+use Rattle.b67_stands.proofs.StayApart.{live_by}
 
 pub plain_of : (code : Code) (img b : Image) (p : ℕ) → private_next code img p ≡ true → table code img p ≡ outcomes.gives b → plain code img p ≡ true
 unfolding plain
 plain_of code img b p e t = ap (λ (x : Bool). x && is_new (table code img p)) e ∙ ap is_new t
 
-live_by : (b : Bool) (e : Effect Image) (new : Image) → cond b e (interrupts bad_code) ≡ gives new → b ≡ true
-live_by true e new i = refl
-live_by false e new i = cc
-
 -- a process that performs an operator lives
 pub lives : (code : Code) (img b : Image) (p : ℕ) → table code img p ≡ outcomes.gives b → is_live (numbered img.states p) ≡ true
 unfolding raw
 lives code img b p t = live_by (is_live (numbered img.states p)) (by_registers code img p (numbered img.regs p)) b ((limit_comes_last.new code img b p).0 t).0
-
-there : {X : Type 0} (xs : List X) (p : ℕ) → 1 ≤ p → p ≤ length xs → (x : X) × (numbered xs p ≡ Some x)
-there xs zero o h = absurd (omega (arith, o))
-there [] (suc k) o h = absurd (omega (arith, h))
-there (x ∷ xs) (suc zero) o h = (x, refl)
-there (x ∷ xs) (suc (suc k)) o h = there xs (suc k) (omega arith) (omega (arith, h))
 
 state_of : (o : Option ProcessState) → is_live o ≡ true → (s : ProcessState) × (o ≡ Some s)
 state_of None e = cc
@@ -63,10 +47,6 @@ number_from img p live = let s = state_of (numbered img.states p) live in number
 pub number_within : (code : Code) (img : Image) (p : ℕ) → IsValid code img → is_live (numbered img.states p) ≡ true → p ≤ img.started
 number_within code img p v live =
     let s = state_of (numbered img.states p) live in omega (arith, numbered_within img.states p s.0 s.1, v.states)
-
--- its registers
-pub registers_of : (code : Code) (img : Image) (p : ℕ) → IsValid code img → is_live (numbered img.states p) ≡ true → (r : Registers) × (numbered img.regs p ≡ Some r)
-registers_of code img p v live = there img.regs p (number_from img p live) (omega (arith, number_within code img p v live, v.registers))
 
 -- ---- what stays
 
@@ -97,7 +77,7 @@ leaves_by code p a b r st e t = private_is_private.leaves code p r a b st (priva
 pub one_same : (code : Code) (p : ℕ) (a b : Image) → IsValid code a → plain code a p ≡ true → table code a p ≡ outcomes.gives b → Same code a b
 one_same code p a b v e t =
     let live = lives code a b p t in
-    let r = registers_of code a p v live in
+    let r = live_there code a p v live in
     let l = leaves_by code p a b r.0 (valid_stands code a p r.0 v live r.1) e t in
     record {
       valid = operators_keep_valid.private code a b p v live (private_of_plain code a p e) t;
@@ -113,17 +93,11 @@ pub others_next : (code : Code) (q p : ℕ) (a b : Image) → p ≢ q → IsVali
     → private_next code b p ≡ private_next code a p
 others_next code q p a b h v e t =
     let live = lives code a b q t in
-    let r = registers_of code a q v live in
+    let r = live_there code a q v live in
     let l = leaves_by code q a b r.0 (valid_stands code a q r.0 v live r.1) e t in
     ap (private_in code) (l.registers p h)
 
 -- ---- either may come first
-
-some_same : (r q : Registers) → Some r ≡ Some q → r ≡ q
-some_same r q e = cc
-
-ok_same : (x y : Operator × ℕ) → ◌≡◌ {A = Result (Operator × ℕ) BadCode} (Ok x) (Ok y) → x ≡ y
-ok_same x y e = cc
 
 -- a private operator touches only its own part
 own_alone : (code : Code) (a : Image) (p q : ℕ) (r : Registers) → p ≢ q → IsValid code a → private_next code a p ≡ true → numbered a.regs q ≡ Some r
@@ -131,7 +105,7 @@ own_alone : (code : Code) (a : Image) (p q : ℕ) (r : Registers) → p ≢ q �
 own_alone code a p q r h v e has live x t mine =
     let o : Registers = t.registers in
     let n : Next code t.registers = next_private code a p t.registers t.lives.is e in
-    let op : n.op ≡ t.op = ap (λ (x : Operator × ℕ). x.0) (ok_same (n.op, n.next) (t.op, t.next) (sym n.stands ∙ t.stands)) in
+    let op : n.op ≡ t.op = ap (λ (x : Operator × ℕ). x.0) (same_found (n.op, n.next) (t.op, t.next) (sym n.stands ∙ t.stands)) in
     let is : row t.op t.registers.place ≡ private_part n.change = ap (λ (w : Operator). row w t.registers.place) (sym op) ∙ n.is in
     let own : IsPrivate t.registers x = subst (λ (w : TableRow). RowTouches w code a p t.registers t.next x) is t.touches in
     let here : t.registers.stack ≡ p = (v.processes p t.registers t.lives.live t.lives.is).stack in
@@ -150,7 +124,7 @@ pub commutes : (code : Code) (p q : ℕ) (a b : Image) → p ≢ q → IsValid c
     → ((r : Registers) → numbered a.regs q ≡ Some r → (x : Place) → OperatorTouches code a p x → IsPrivate r x → ⊥) → Commute code p q a b
 commutes code p q a b h v e t apart =
     let live = lives code a b q t in
-    let r = registers_of code a q v live in
+    let r = live_there code a q v live in
     plain_operators_commute code p q r.0 a b h (valid_stands code a q r.0 v live r.1) e t (apart r.0 r.1)
 
 pub step_first : (code : Code) (p q : ℕ) (a b c : Image) → p ≢ q → IsValid code a → plain code a q ≡ true → table code a q ≡ outcomes.gives b

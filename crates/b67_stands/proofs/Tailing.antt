@@ -5,9 +5,10 @@ use Rattle.b67_segment.specs.declared.code.Code.{Code}
 use Rattle.b67_table.specs.Image.{Image}
 use Rattle.b67_table.specs.Runs.{Plains, stay, Tails, none, next}
 use Rattle.b67_table.specs.Valid.{IsValid}
+use Rattle.b67_action.proofs.Runs.{plains_then}
 use Rattle.b67_stands.specs.Tails.{more_at, none_at, at_place}
 use Rattle.b67_stands.proofs.Steps.{Same, same_self, same_then}
-use Rattle.b67_stands.proofs.Past.{plains_same, and_then, none_stays, all_first}
+use Rattle.b67_stands.proofs.Past.{plains_same, none_stays, all_first}
 
 pub tails_same : (code : Code) (s : ℕ) (a b : Image) (tails : List ℕ) → IsValid code a → Tails code s a tails b → Same code a b
 tails_same code s a b tails v none = same_self code a v
@@ -63,7 +64,7 @@ tail_grows code s zero n a b c tails v (next {n = m} {b = d} {tails = ts} one re
     let here : s + 0 ≡ s = omega arith in
     let k = before_tails code s (s + 1) d b c ts n (plains_same code s a d m v one).valid rest (λ j e. absurd (omega (arith, e)))
     (subst (λ (p : ℕ). Plains code p b n c) here more) in
-    next (and_then code s a d k.between m n one k.first) k.rest
+    next (plains_then code s a d k.between m n one k.first) k.rest
 tail_grows code s (suc k) n a b c tails v (next {n = m} {b = d} {tails = ts} one rest) more =
     let there : s + suc k ≡ s + 1 + k = omega arith in
     next one (tail_grows code (s + 1) k n d b c ts (plains_same code s a d m v one).valid rest (subst (λ (p : ℕ). Plains code p b n c) there more))

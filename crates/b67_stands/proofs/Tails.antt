@@ -3,6 +3,7 @@ use Rattle.std.specs.Prelude.{sum}
 use Rattle.std.proofs.Common.{◌≡◌, ◌≢◌, refl, ap, ℕ, zero, suc, ◌+◌, ◌≤◌, ◌<◌, List, [], ◌∷◌, length, arith}
 use Rattle.std.proofs.lemmas.List.Sums.{sum_by-cons}
 use Rattle.b67_stands.specs.Tails.{more_at, none_at, at_place, with_more, tails_without, tail_of}
+use Rattle.b67_stands.proofs.Advancing.{none_there}
 
 -- ---- more in a tail
 
@@ -42,11 +43,6 @@ more_length (t ∷ ts) (suc k) n zero h l = absurd (omega (arith, l))
 more_length (t ∷ ts) (suc k) n (suc m) h l = let r = more_length ts k n m (omega (arith, h)) (omega (arith, l)) in omega (arith, r)
 
 -- ---- none in a tail
-
-none_own : (tails : List ℕ) (k : ℕ) → at_place (none_at tails k) k ≡ 0
-none_own [] k = refl
-none_own (t ∷ ts) zero = refl
-none_own (t ∷ ts) (suc k) = none_own ts k
 
 none_other : (tails : List ℕ) (k j : ℕ) → j ≢ k → at_place (none_at tails k) j ≡ at_place tails j
 none_other [] k j h = refl
@@ -91,7 +87,7 @@ length_more tails (suc k) n m h l = more_length tails k n m h (omega (arith, l))
 
 pub tail_without_own : (tails : List ℕ) (p : ℕ) → tail_of (tails_without tails p) p ≡ 0
 tail_without_own tails zero = refl
-tail_without_own tails (suc k) = none_own tails k
+tail_without_own tails (suc k) = none_there tails k
 
 pub tail_without_other : (tails : List ℕ) (p q : ℕ) → q ≢ p → tail_of (tails_without tails p) q ≡ tail_of tails q
 tail_without_other tails zero q h = refl

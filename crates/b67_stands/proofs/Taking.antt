@@ -1,27 +1,24 @@
 -- A plant stands after a take, and after a leave.
 use Rattle.std.specs.Prelude.{slice_get, remove}
-use Rattle.std.proofs.Common.{◌≡◌, ◌≢◌, refl, sym, subst, ◌∙◌, ℕ, ◌+◌, ◌≤◌, true, List, length, Option, Some, None, arith}
+use Rattle.std.proofs.Common.{◌≡◌, ◌≢◌, sym, subst, ◌∙◌, ℕ, ◌+◌, ◌≤◌, true, List, length, Some, None, arith}
 use Rattle.b67_list.specs.Numbered.{numbered, set_numbered}
 use Rattle.b67_segment.specs.declared.code.Code.{Code}
-use Rattle.b67_table.specs.declared.ProcessState.{ProcessState}
-use Rattle.b67_table.specs.Image.{Image, is_able}
+use Rattle.b67_table.specs.Image.{Image}
 use Rattle.b67_table.specs.Limits.{most_processes}
 use Rattle.b67_table.specs.Valid.{IsValid}
 use Rattle.b67_table.proofs.Lists.{numbered_from, numbered_within}
+use Rattle.b67_table.proofs.Withdrawing.{length_set}
 use Rattle.b67_action.specs.Able.{able_in}
 use Rattle.b67_ready.specs.Ready.{counted_on}
 use Rattle.b67_joining.proofs.Times.{one_at_most, few_of}
+use Rattle.b67_machine.proofs.Entering.{state_of}
 use Rattle.b67_stands.specs.Running.{Running, answer_of}
 use Rattle.b67_stands.specs.Placing.{ProcessesPlaced}
 use Rattle.b67_stands.specs.Stands.{Stands}
 use Rattle.b67_stands.specs.Calls.{TakesOne, Leaves}
-use Rattle.b67_stands.proofs.Places.{got_times, length_set, waiting_able, placed_taken}
+use Rattle.b67_stands.proofs.Places.{got_times, waiting_able, placed_taken}
 
 -- ---- numbers
-
-state_of : (o : Option ProcessState) → is_able o ≡ true → (s : ProcessState) × (o ≡ Some s)
-state_of None e = cc
-state_of (Some s) e = (s, refl)
 
 -- who is able has a number
 pub number_of : (code : Code) (image : Image) (p : ℕ) → IsValid code image → able_in image p ≡ true → (1 ≤ p) × (p ≤ most_processes)

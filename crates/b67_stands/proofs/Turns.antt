@@ -6,7 +6,7 @@ use Rattle.std.proofs.lemmas.List.{append-nil, length-append, replicate_more}
 use Rattle.b67_list.specs.Numbered.{set_numbered}
 use Rattle.b67_deeds.specs.declared.Letter.{Letter}
 use Rattle.b67_schedule.specs.Schedules.{entries, ScheduleModel}
-use Rattle.b67_schedule.proofs.Pushes.{entries-push}
+use Rattle.b67_schedule.proofs.Pushes.{entries_push}
 use Rattle.b67_segment.specs.declared.code.Code.{Code}
 use Rattle.b67_limits.specs.declared.TheConstants.{MOST_BUDGET}
 use Rattle.b67_table.specs.Image.{Image}
@@ -133,7 +133,7 @@ pub some_grown : (old : ScheduleModel) (p : ℕ) (ls : List Letter) → (new : S
 some_grown old p [] = (old, record { added = sym (append-nil (entries old.runs)); letters = sym (append-nil old.letters); none = λ e. refl })
 some_grown old p (l ∷ ls) = (
   record { runs = old.runs ++ record { process = p; times = suc (length ls) } ∷ []; letters = old.letters ++ l ∷ ls; room = old.room },
-  record { added = entries-push old.runs (record { process = p; times = suc (length ls) }); letters = refl; none = λ e. cc },
+  record { added = entries_push old.runs (record { process = p; times = suc (length ls) }); letters = refl; none = λ e. cc },
 )
 
 module _ (budget : ℕ) (pick : Pick) (me p : ℕ) (old : Running) (first : (takes : ℕ) → pick 1 takes ≡ 0) (one : 1 ≤ p) (within : p ≤ length old.out)

@@ -1,17 +1,12 @@
 -- From stop to stop.
-use Rattle.std.proofs.Common.{arith, ◌≡◌, ◌≢◌, ap, sym, ◌∙◌, subst, ◌⊎◌, inl, inr, ℕ, zero, suc, ◌+◌, ◌-◌, ◌<◌, ◌≤◌, ◌^◌, min, List, [], ◌∷◌, ◌++◌, length, take, drop, get_or, replicate, Some, append_assoc, length-append, drop-cons}
+use Rattle.std.proofs.Common.{arith, ◌≡◌, ◌≢◌, ap, sym, ◌∙◌, subst, ◌⊎◌, inl, inr, ℕ, ◌+◌, ◌-◌, ◌<◌, ◌≤◌, ◌^◌, min, List, [], ◌++◌, length, take, replicate, Some, append_assoc, length-append}
 use Rattle.std.specs.Prelude.{slice_get}
 use Rattle.std.proofs.Math.Seq.{take-append_seam}
 use Rattle.std.proofs.lemmas.List.{length-replicate}
 use Rattle.std.proofs.lemmas.Bool.{cases_lt}
-use Rattle.b67_schedule.specs.declared.Run.{Run}
-use Rattle.b67_schedule.specs.Schedules.{entries}
 use Rattle.b67_commands.specs.declared.command.Command.{Command}
+use Rattle.b67_list.proofs.Numbers.{replicate_parts}
 use Rattle.b67_stops.specs.Answering.{IsNextStop, AnswersHere, AnsweredBelow, IsAt, AreAnswers}
-
-replicate_parts : (n m p : ℕ) → replicate (n + m) p ≡ replicate n p ++ replicate m p
-replicate_parts zero m p = let r : zero + m ≡ m = omega arith in ap (λ (k : ℕ). replicate k p) r
-replicate_parts (suc n) m p = let r : suc n + m ≡ suc (n + m) = omega arith in ap (λ (k : ℕ). replicate k p) r ∙ ap (λ (xs : List ℕ). p ∷ xs) (replicate_parts n m p)
 
 -- the first so many of a run, and the others
 pub run_parts : (count times p : ℕ) (left : List ℕ) → times ≤ count → replicate count p ++ left ≡ replicate times p ++ (replicate (count - times) p ++ left)
@@ -20,9 +15,6 @@ run_parts count times p left less =
     ap (λ (n : ℕ). replicate n p ++ left) all
     ∙ ap (λ (xs : List ℕ). xs ++ left) (replicate_parts times (count - times) p)
     ∙ append_assoc (replicate times p) (replicate (count - times) p) left
-
-pub entries_drop : (runs : List Run) (i : ℕ) (d : Run) → i < length runs → entries (drop i runs) ≡ replicate ((get_or runs i d).times) ((get_or runs i d).process) ++ entries (drop (i + 1) runs)
-entries_drop runs i d l = let next : suc i ≡ i + 1 = omega arith in ap entries (drop-cons runs i d l ∙ ap (λ (n : ℕ). get_or runs i d ∷ drop n runs) next)
 
 -- the commands that are given before the stop after k, once those at k are answered
 module _

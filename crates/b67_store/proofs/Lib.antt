@@ -4,3 +4,4 @@ pub mod Tables
 pub mod StoreLaws
 pub mod TopFirst
 pub mod Rooms
+pub mod Cited

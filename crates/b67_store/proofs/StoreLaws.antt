@@ -62,28 +62,28 @@ by_number =
       least = open_below;
     }
 
-count-cons : (y : Option Row) (ys : Rows) → counted_words (y ∷ ys) ≡ live_words y + counted_words ys
-count-cons y ys = sum_by-cons live_words y ys
+count_cons : (y : Option Row) (ys : Rows) → counted_words (y ∷ ys) ≡ live_words y + counted_words ys
+count_cons y ys = sum_by-cons live_words y ys
 
 count_opened : (rows : Rows) (n : ℕ) (row : Row) → row_at rows n ≡ None → counted_words (opened_at rows n row) ≡ counted_words rows + live_words (Some row)
 count_opened [] zero row h = refl
-count_opened [] (suc n) row h = count-cons None (opened_at [] n row) ∙ omega (arith, count_opened [] n row h)
-count_opened (y ∷ ys) zero row h = omega (arith, count-cons y ys, count-cons (Some row) ys, ap live_words h)
-count_opened (y ∷ ys) (suc n) row h = omega (arith, count-cons y ys, count-cons y (opened_at ys n row), count_opened ys n row h)
+count_opened [] (suc n) row h = count_cons None (opened_at [] n row) ∙ omega (arith, count_opened [] n row h)
+count_opened (y ∷ ys) zero row h = omega (arith, count_cons y ys, count_cons (Some row) ys, ap live_words h)
+count_opened (y ∷ ys) (suc n) row h = omega (arith, count_cons y ys, count_cons y (opened_at ys n row), count_opened ys n row h)
 
 count_closed : (rows : Rows) (n : ℕ) → counted_words (closed_at rows n) + live_words (row_at rows n) ≡ counted_words rows
 count_closed [] n = refl
-count_closed (y ∷ ys) zero = omega (arith, count-cons y ys, count-cons None ys)
-count_closed (y ∷ ys) (suc n) = omega (arith, count-cons y ys, count-cons y (closed_at ys n), count_closed ys n)
+count_closed (y ∷ ys) zero = omega (arith, count_cons y ys, count_cons None ys)
+count_closed (y ∷ ys) (suc n) = omega (arith, count_cons y ys, count_cons y (closed_at ys n), count_closed ys n)
 
 live_written : (row : Option Row) (at : ℕ) (word : Word) → live_words (row_with row at word) ≡ live_words row
 live_written None at word = refl
 live_written (Some row) at word = same_live row.counted row.words at word
 
-count_written : (rows : Rows) (n at : ℕ) (word : Word) → counted_words (with_row_word rows n at word) ≡ counted_words rows
+pub count_written : (rows : Rows) (n at : ℕ) (word : Word) → counted_words (with_row_word rows n at word) ≡ counted_words rows
 count_written [] n at word = refl
-count_written (y ∷ ys) zero at word = omega (arith, count-cons y ys, count-cons (row_with y at word) ys, live_written y at word)
-count_written (y ∷ ys) (suc n) at word = omega (arith, count-cons y ys, count-cons y (with_row_word ys n at word), count_written ys n at word)
+count_written (y ∷ ys) zero at word = omega (arith, count_cons y ys, count_cons (row_with y at word) ys, live_written y at word)
+count_written (y ∷ ys) (suc n) at word = omega (arith, count_cons y ys, count_cons y (with_row_word ys n at word), count_written ys n at word)
 
 pub counts : CountsOpenRows
 counts = record { opened = count_opened; closed = count_closed; written = count_written }

@@ -37,31 +37,31 @@ ones : (xs : List ℕ) → sum_by (λ k. 1) xs ≡ length xs
 ones [] = refl
 ones (x ∷ xs) = sum_by-cons (λ k. 1) x xs ∙ omega (arith, ones xs)
 
-weight-closed : {X : Type 0} (f : ℕ → ℕ) (k n m : ℕ) (xs : List (Option X)) (x : X) → m ≡ k + n → at_number xs n ≡ Some x → weight_of_free f k (set xs n None) ≡ f m + weight_of_free f k xs
-weight-closed f k n m [] x e h = absurd (search rules)
-weight-closed f k zero m (None ∷ xs) x e h = absurd (search rules)
-weight-closed f k zero m (Some y ∷ xs) x e h = let a : m ≡ k = omega arith in rw a refl
-weight-closed f k (suc n) m (None ∷ xs) x e h = omega (arith, weight-closed f (suc k) n m xs x (omega arith) h)
-weight-closed f k (suc n) m (Some y ∷ xs) x e h = weight-closed f (suc k) n m xs x (omega arith) h
+weight_closed : {X : Type 0} (f : ℕ → ℕ) (k n m : ℕ) (xs : List (Option X)) (x : X) → m ≡ k + n → at_number xs n ≡ Some x → weight_of_free f k (set xs n None) ≡ f m + weight_of_free f k xs
+weight_closed f k n m [] x e h = absurd (search rules)
+weight_closed f k zero m (None ∷ xs) x e h = absurd (search rules)
+weight_closed f k zero m (Some y ∷ xs) x e h = let a : m ≡ k = omega arith in rw a refl
+weight_closed f k (suc n) m (None ∷ xs) x e h = omega (arith, weight_closed f (suc k) n m xs x (omega arith) h)
+weight_closed f k (suc n) m (Some y ∷ xs) x e h = weight_closed f (suc k) n m xs x (omega arith) h
 
-weight-opened : {X : Type 0} (f : ℕ → ℕ) (k n m : ℕ) (xs : List (Option X)) (x : X) → m ≡ k + n → n < length xs → at_number xs n ≡ None → f m + weight_of_free f k (set xs n (Some x)) ≡ weight_of_free f k xs
-weight-opened f k n m [] x e p h = absurd (omega arith)
-weight-opened f k zero m (None ∷ xs) x e p h = let a : m ≡ k = omega arith in rw a refl
-weight-opened f k zero m (Some y ∷ xs) x e p h = absurd (search rules)
-weight-opened f k (suc n) m (None ∷ xs) x e p h = omega (arith, weight-opened f (suc k) n m xs x (omega arith) (omega arith) h)
-weight-opened f k (suc n) m (Some y ∷ xs) x e p h = weight-opened f (suc k) n m xs x (omega arith) (omega arith) h
+weight_opened : {X : Type 0} (f : ℕ → ℕ) (k n m : ℕ) (xs : List (Option X)) (x : X) → m ≡ k + n → n < length xs → at_number xs n ≡ None → f m + weight_of_free f k (set xs n (Some x)) ≡ weight_of_free f k xs
+weight_opened f k n m [] x e p h = absurd (omega arith)
+weight_opened f k zero m (None ∷ xs) x e p h = let a : m ≡ k = omega arith in rw a refl
+weight_opened f k zero m (Some y ∷ xs) x e p h = absurd (search rules)
+weight_opened f k (suc n) m (None ∷ xs) x e p h = omega (arith, weight_opened f (suc k) n m xs x (omega arith) (omega arith) h)
+weight_opened f k (suc n) m (Some y ∷ xs) x e p h = weight_opened f (suc k) n m xs x (omega arith) (omega arith) h
 
-weight-stays : {X : Type 0} (f : ℕ → ℕ) (k n : ℕ) (xs : List (Option X)) (x y : X) → at_number xs n ≡ Some y → weight_of_free f k (set xs n (Some x)) ≡ weight_of_free f k xs
-weight-stays f k n [] x y h = absurd (search rules)
-weight-stays f k zero (None ∷ xs) x y h = absurd (search rules)
-weight-stays f k zero (Some z ∷ xs) x y h = refl
-weight-stays f k (suc n) (None ∷ xs) x y h = ap (λ w. f k + w) (weight-stays f (suc k) n xs x y h)
-weight-stays f k (suc n) (Some z ∷ xs) x y h = weight-stays f (suc k) n xs x y h
+weight_stays : {X : Type 0} (f : ℕ → ℕ) (k n : ℕ) (xs : List (Option X)) (x y : X) → at_number xs n ≡ Some y → weight_of_free f k (set xs n (Some x)) ≡ weight_of_free f k xs
+weight_stays f k n [] x y h = absurd (search rules)
+weight_stays f k zero (None ∷ xs) x y h = absurd (search rules)
+weight_stays f k zero (Some z ∷ xs) x y h = refl
+weight_stays f k (suc n) (None ∷ xs) x y h = ap (λ w. f k + w) (weight_stays f (suc k) n xs x y h)
+weight_stays f k (suc n) (Some z ∷ xs) x y h = weight_stays f (suc k) n xs x y h
 
-weight-pushed : {X : Type 0} (f : ℕ → ℕ) (k : ℕ) (xs : List (Option X)) (x : X) → weight_of_free f k (xs ++ Some x ∷ []) ≡ weight_of_free f k xs
-weight-pushed f k [] x = refl
-weight-pushed f k (None ∷ xs) x = ap (λ w. f k + w) (weight-pushed f (suc k) xs x)
-weight-pushed f k (Some y ∷ xs) x = weight-pushed f (suc k) xs x
+weight_pushed : {X : Type 0} (f : ℕ → ℕ) (k : ℕ) (xs : List (Option X)) (x : X) → weight_of_free f k (xs ++ Some x ∷ []) ≡ weight_of_free f k xs
+weight_pushed f k [] x = refl
+weight_pushed f k (None ∷ xs) x = ap (λ w. f k + w) (weight_pushed f (suc k) xs x)
+weight_pushed f k (Some y ∷ xs) x = weight_pushed f (suc k) xs x
 
 ones_within : {X : Type 0} (k : ℕ) (xs : List (Option X)) → weight_of_free (λ j. 1) k xs ≤ length xs
 ones_within k [] = omega arith
@@ -101,7 +101,7 @@ least_taken rows numbers rest n x same moved none =
     let some : least_free rows < length rows =
     least_within 0 rows (omega (arith, same (λ j. 1), sum_by_popped (λ j. 1) n numbers rest moved)) in
     let low : n ≤ least_free rows =
-    below_zero (least_free rows) n (omega (arith, none, same (below n), weight-opened (below n) 0 (least_free rows) (least_free rows) rows x (omega arith) some (least_is_free rows some))) in
+    below_zero (least_free rows) n (omega (arith, none, same (below n), weight_opened (below n) 0 (least_free rows) (least_free rows) rows x (omega arith) some (least_is_free rows some))) in
     let high : least_free rows ≤ n =
     below_zero n (least_free rows) (omega (arith, same (below (least_free rows)), weight_below (below (least_free rows)) 0 rows (λ j p. zero_below j (least_free rows) (omega arith)), sum_by_popped (below (least_free rows)) n numbers rest moved)) in
     (some, omega arith)
@@ -122,7 +122,7 @@ reused rows free after counted n more row t moved none room live few =
         few_words = few;
         few_rows = omega (arith, size, t.few_rows);
         room = omega (arith, size, room, t.room);
-        free_numbers = λ w. omega (arith, sum_by_popped w n free.numbers after.numbers moved, t.free_numbers w, weight-opened w 0 n n rows row (omega arith) within here);
+        free_numbers = λ w. omega (arith, sum_by_popped w n free.numbers after.numbers moved, t.free_numbers w, weight_opened w 0 n n rows row (omega arith) within here);
       },
     )
 
@@ -137,14 +137,14 @@ appended rows free after counted more row t empty still room short live few =
         few_words = few;
         few_rows = omega (arith, size);
         room = omega (arith, size, room);
-        free_numbers = λ w. ap (λ ns. sum_by w ns) still ∙ sym (none w) ∙ sym (weight-pushed w 0 rows row);
+        free_numbers = λ w. ap (λ ns. sum_by w ns) still ∙ sym (none w) ∙ sym (weight_pushed w 0 rows row);
       },
     )
 
 -- a row that is open has a number for which there is room
 pub has_room : (rows : Rows) (free : Numbers) (counted n : ℕ) (row : Row) → IsTable rows free counted → at_number rows n ≡ Some row → length free.numbers < free.room
 has_room rows free counted n row t here =
-    omega (arith, t.room, ones free.numbers, t.free_numbers (λ j. 1), weight-closed (λ j. 1) 0 n n rows row (omega arith) here, ones_within 0 (set rows n None), length-set rows n None)
+    omega (arith, t.room, ones free.numbers, t.free_numbers (λ j. 1), weight_closed (λ j. 1) 0 n n rows row (omega arith) here, ones_within 0 (set rows n None), length-set rows n None)
 
 -- closing a row
 pub freed : (rows : Rows) (free after : Numbers) (counted n less : ℕ) (row : Row) → IsTable rows free counted → at_number rows n ≡ Some row → IsPermutation (n ∷ free.numbers) after.numbers → free.room ≤ after.room → less + live_words (Some row) ≡ counted → IsTable (set rows n None) after less
@@ -158,7 +158,7 @@ freed rows free after counted n less row t here moved room live =
       few_words = omega (arith, live, t.few_words);
       few_rows = omega (arith, size, t.few_rows);
       room = omega (arith, size, room, t.room);
-      free_numbers = λ w. omega (arith, sum_by_pushed w n free.numbers after.numbers moved, t.free_numbers w, weight-closed w 0 n n rows row (omega arith) here);
+      free_numbers = λ w. omega (arith, sum_by_pushed w n free.numbers after.numbers moved, t.free_numbers w, weight_closed w 0 n n rows row (omega arith) here);
     }
 
 -- the words of an open row count among all
@@ -183,7 +183,7 @@ rewritten rows free counted n row new t here live =
       few_words = t.few_words;
       few_rows = omega (arith, size, t.few_rows);
       room = omega (arith, size, t.room);
-      free_numbers = λ w. t.free_numbers w ∙ sym (weight-stays w 0 n rows new row here);
+      free_numbers = λ w. t.free_numbers w ∙ sym (weight_stays w 0 n rows new row here);
     }
 
 -- a call that may write a word of what is at a number, which the table reaches

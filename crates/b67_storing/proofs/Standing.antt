@@ -1,9 +1,10 @@
 -- Where a walk stands that notes what the entries store.
-use Rattle.std.proofs.Common.{arith, ◌≡◌, refl, ap, sym, ◌∙◌, subst, ℕ, suc, ◌+◌, ◌-◌, ◌<◌, if◌then◌else◌, Bool, true, false, List, [], ◌∷◌, ◌++◌, length, replicate, get_or, drop, Option, Some, None, append_assoc, length-append, drop-cons}
+use Rattle.std.proofs.Common.{arith, ◌≡◌, refl, ap, sym, ◌∙◌, subst, ℕ, suc, ◌+◌, ◌-◌, ◌<◌, List, [], ◌∷◌, ◌++◌, length, replicate, get_or, drop, Option, Some, None, append_assoc, length-append}
 use Rattle.algol_tree.specs.Scopes.{Scopes}
 use Rattle.algol_meaning.specs.World.{World}
 use Rattle.algol_meaning.specs.Choice.{choice}
-use Rattle.algol_meaning.specs.Run.{may_go, after_entry, run_from}
+use Rattle.algol_meaning.specs.Run.{after_entry, run_from}
+use Rattle.algol_meaning.proofs.Cited.{after_is, entry_is, no_world, run_none, stays_none}
 use Rattle.algol_seen.specs.Accesses.{next_access}
 use Rattle.algol_seen.specs.Seen.{access, ProcessIsSeen}
 use Rattle.algol_seen.specs.declared.seen.Seen.{Seen}
@@ -11,6 +12,7 @@ use Rattle.algol_lean.specs.Beside.{SeenBeside}
 use Rattle.b67_race.specs.Entries.{Access, Done}
 use Rattle.b67_schedule.specs.declared.Run.{Run}
 use Rattle.b67_schedule.specs.Schedules.{entries}
+use Rattle.b67_schedule.proofs.Cited.{entries_drop}
 use Rattle.b67_commands.specs.declared.command.Command.{Command}
 use Rattle.b67_commands.specs.declared.noting.Note.{Note}
 use Rattle.b67_commands.specs.Positions.{Stored}
@@ -19,27 +21,11 @@ use Rattle.b67_storing.specs.Stores.{stored_name, stored_from}
 use Rattle.b67_storing.specs.Walking.{StandsNoted}
 use Rattle.b67_storing.proofs.Noting.{notes_more}
 
-run_none : (sc : Scopes) (h : List ℕ) → run_from sc h None ≡ None
-run_none sc [] = refl
-run_none sc (p ∷ h) = refl
-
 run_append : (sc : Scopes) (a b : List ℕ) (o : Option World) → run_from sc (a ++ b) o ≡ run_from sc b (run_from sc a o)
 run_append sc [] b None = refl
 run_append sc [] b (Some w) = refl
 run_append sc (p ∷ a) b None = sym (run_none sc b)
 run_append sc (p ∷ a) b (Some w) = run_append sc a b (after_entry sc w p)
-
-pub entries_drop : (runs : List Run) (i : ℕ) (d : Run) → i < length runs → entries (drop i runs) ≡ replicate ((get_or runs i d).times) ((get_or runs i d).process) ++ entries (drop (i + 1) runs)
-entries_drop runs i d l = let next : suc i ≡ i + 1 = omega arith in ap entries (drop-cons runs i d l ∙ ap (λ (n : ℕ). get_or runs i d ∷ drop n runs) next)
-
--- the world after an entry that may go
-after_is : (sc : Scopes) (w : World) (p : ℕ) (h : List ℕ) (v : World) → run_from sc (p ∷ h) (Some w) ≡ Some v → run_from sc h (Some ((choice sc w p).world)) ≡ Some v
-unfolding after_entry
-after_is sc w p h v e = by (may_go w p) e
-  where
-    by : (b : Bool) → run_from sc h (if b then Some ((choice sc w p).world) else None) ≡ Some v → run_from sc h (Some ((choice sc w p).world)) ≡ Some v
-    by true f = f
-    by false f = let g : None ≡ Some v = sym (run_none sc h) ∙ f in cc
 
 stored_more : (sc : Scopes) (h : List ℕ) (p : ℕ) (w v : World) → run_from sc h (Some w) ≡ Some v
     → stored_from sc w (h ++ p ∷ []) ≡ stored_from sc w h ++ stored_name (next_access sc v p) ∷ []
@@ -53,18 +39,6 @@ stored_more sc (q ∷ h) p w v e =
 pub length_stored : (sc : Scopes) (w : World) (h : List ℕ) → length (stored_from sc w h) ≡ length h
 length_stored sc w [] = refl
 length_stored sc w (p ∷ h) = ap suc (length_stored sc ((choice sc w p).world) h)
-
--- the world after an entry that goes
-entry_is : (sc : Scopes) (v after : World) (p : ℕ) → may_go v p ≡ true → after ≡ (choice sc v p).world → after_entry sc v p ≡ Some after
-unfolding after_entry
-entry_is sc v after p may same = ap (λ (b : Bool). if b then Some ((choice sc v p).world) else None) may ∙ ap (λ (u : World). Some u) (sym same)
-
-stays_none : (sc : Scopes) (v : World) (p : ℕ) → may_go v p ≡ false → after_entry sc v p ≡ None
-unfolding after_entry
-stays_none sc v p e = ap (λ (b : Bool). if b then Some ((choice sc v p).world) else None) e
-
-no_world : {v : World} → None ≡ Some v → ⊥
-no_world e = cc
 
 module _
     (sc : Scopes) (commands : List Command) (w : World) (given : List ℕ) (now after : World) (notes more : List Note) (before p : ℕ) (left : List ℕ)

@@ -11,7 +11,7 @@ use Rattle.b67_control.specs.declared.Registers.{Registers}
 use Rattle.b67_control.specs.declared.Mscw.{Mscw}
 use Rattle.b67_control.specs.declared.Pcw.{Pcw}
 use Rattle.b67_control.specs.Control.{as_mscw, as_pcw, Fits_mscw, Fits_pcw}
-use Rattle.b67_control.proofs.ControlLaws.{Fits-as_mscw, Fits-as_pcw}
+use Rattle.b67_control.proofs.ControlLaws.{Fits_as_mscw, Fits_as_pcw}
 use Rattle.b67_ops.specs.declared.Operator.{Operator}
 use Rattle.b67_ops.specs.declared.Operator.TheVariants as ops
 use Rattle.b67_ops.specs.declared.PlainKind.{PlainKind}
@@ -83,7 +83,7 @@ module _ (code : Code) (img : Image) (p : ℕ) (r : Registers) (v : IsValid code
   mark_found o =
       look_then img.stacks (λ (w : Word). Unit {0}) Fits_mscw (valid o) _ (anything_found (look_seen img.stacks (valid o))) (λ w u.
       look_then img.stacks Fits_mscw Fits_mscw (valid (as_mscw w)) not_entered
-      (there_found img.stacks Fits_mscw InvalidOperand (as_mscw w) (λ m e. Fits-as_mscw w e))
+      (there_found img.stacks Fits_mscw InvalidOperand (as_mscw w) (λ m e. Fits_as_mscw w e))
       (λ m f. found_by img.stacks Fits_mscw m.entered invalid (found m) (λ b. tt) (λ b. f)))
 
   marked_found : Found IsMarked (look_seen img.stacks (marked r))
@@ -134,12 +134,12 @@ module _ (code : Code) (img : Image) (p : ℕ) (r : Registers) (v : IsValid code
 
   entered_by : (m : Mscw) (w : Word) → IsMarked m → (o : Option Cell) → cell_of r w ≡ o → Gives E (asked img (enter_by code r next m w o))
   entered_by m w k None e =
-      see_then img Fits_pcw E (valid (as_pcw w)) _ (there_found img.stacks Fits_pcw InvalidOperand (as_pcw w) (λ pcw i. Fits-as_pcw w i)) (λ pcw f.
+      see_then img Fits_pcw E (valid (as_pcw w)) _ (there_found img.stacks Fits_pcw InvalidOperand (as_pcw w) (λ pcw i. Fits_as_pcw w i)) (λ pcw f.
       procedure_kept m pcw (level_below r pcw.level) k f (below_held pcw.level))
   entered_by m w k (Some c) e =
       see_then img (IsReached code img p r v live has) E (reached (Some c)) _
       (reached_found code img p r v live has (Some c) (λ x i. cell_is code img p r v live has w x (e ∙ i))) (λ x i.
-      see_then img Fits_pcw E (valid (as_pcw x.word)) _ (there_found img.stacks Fits_pcw InvalidOperand (as_pcw x.word) (λ pcw j. Fits-as_pcw x.word j)) (λ pcw f.
+      see_then img Fits_pcw E (valid (as_pcw x.word)) _ (there_found img.stacks Fits_pcw InvalidOperand (as_pcw x.word) (λ pcw j. Fits_as_pcw x.word j)) (λ pcw f.
       procedure_kept m pcw (Some x.cell.frame) k f (λ h j. let same : x.cell.frame ≡ h = cc in subst IsHeld same i.cell.frame)))
 
   enter_kept : Gives E (asked img (enter code r next))

@@ -5,12 +5,13 @@ use Rattle.std.proofs.lemmas.Bool.{leb-true}
 use Rattle.std.proofs.lemmas.List.Elements.{All-nil, All-cons, All-append}
 use Rattle.std.proofs.Math.Decide.{ℕ_discrete}
 use Rattle.b67_list.specs.Numbered.{numbered}
+use Rattle.b67_list.proofs.Truths.{not_both}
 use Rattle.b67_word.specs.declared.Place.{Place}
 use Rattle.b67_word.specs.Word.{Word, IsWord}
 use Rattle.b67_control.specs.declared.Registers.{Registers}
 use Rattle.b67_control.specs.declared.Mscw.{Mscw}
 use Rattle.b67_control.specs.Control.{as_mscw, as_rcw, as_pcw, Fits_mscw, Fits_rcw, Fits_pcw}
-use Rattle.b67_control.proofs.ControlLaws.{IsWord-mscw_word, IsWord-rcw_word, as_mscw-mscw_word, as_rcw-rcw_word, Fits-as_pcw}
+use Rattle.b67_control.proofs.ControlLaws.{IsWord_mscw_word, IsWord_rcw_word, as_mscw_mscw_word, as_rcw_rcw_word, Fits_as_pcw}
 use Rattle.b67_segment.specs.declared.code.Code.{Code}
 use Rattle.b67_store.specs.Store.{stack_at, words_of, words_or, opened_at}
 use Rattle.b67_store.proofs.StoreLaws.{opened_here, opened_others}
@@ -37,17 +38,17 @@ use Rattle.b67_table.proofs.Chained.{Shows, linked_found}
 use Rattle.b67_table.proofs.Referring.{IsReached, cell_is, reached_found}
 use Rattle.b67_table.proofs.OwnValid.{process_stays}
 use Rattle.b67_table.proofs.Simple.{Ends, finished_ends}
-use Rattle.b67_table.proofs.EventKept.{not_both, within_of, states_kept}
-use Rattle.b67_table.proofs.Wordly.{All-tail}
+use Rattle.b67_table.proofs.EventKept.{within_of, states_kept}
+use Rattle.b67_table.proofs.Wordly.{All_tail}
 use Rattle.b67_table.proofs.Calls.{chained_kept}
 
 -- ---- one more at the end of a list
 
-last_is : {X : Type 0} (xs : List X) (a : X) → slice_get (xs ++ a ∷ []) (length xs) ≡ Some a
+pub last_is : {X : Type 0} (xs : List X) (a : X) → slice_get (xs ++ a ∷ []) (length xs) ≡ Some a
 last_is [] a = refl
 last_is (x ∷ xs) a = last_is xs a
 
-others_are : {X : Type 0} (xs : List X) (a : X) (k : ℕ) → k ≢ length xs → slice_get (xs ++ a ∷ []) k ≡ slice_get xs k
+pub others_are : {X : Type 0} (xs : List X) (a : X) (k : ℕ) → k ≢ length xs → slice_get (xs ++ a ∷ []) k ≡ slice_get xs k
 others_are [] a zero h = absurd (h refl)
 others_are [] a (suc k) h = refl
 others_are (x ∷ xs) a zero h = refl
@@ -69,9 +70,6 @@ no_more (x ∷ xs) = no_more xs
 module _ (code : Code) (img : Image) (v : IsValid code img) (t : Starting) (fits : Fits_pcw t.procedure) (home : IsHeld t.home) (are : All IsWord t.parameters)
     (few : length t.parameters ≤ most_cells) (display : List (Option Place)) (shows : Shows img (place (img.started + 1) 0) t.procedure.level display)
     (depends : Option Place) (earlier : (c : Place) → depends ≡ Some c → c.stack ≤ img.started) (room : img.started < most_processes) (p : ℕ) where
-  n : ℕ
-  n = img.started + 1
-
   r : Registers
   r = process_begun (img.started + 1) t display depends
 
@@ -92,8 +90,8 @@ module _ (code : Code) (img : Image) (v : IsValid code img) (t : Starting) (fits
 
   words_are : All IsWord (first_words t)
   words_are =
-      All-cons IsWord (entered_mark t.home 0) (base_control t.procedure.level ∷ t.parameters) (IsWord-mscw_word _ mark_fits)
-      (All-cons IsWord (base_control t.procedure.level) t.parameters (IsWord-rcw_word _ control_fits) are)
+      All-cons IsWord (entered_mark t.home 0) (base_control t.procedure.level ∷ t.parameters) (IsWord_mscw_word _ mark_fits)
+      (All-cons IsWord (base_control t.procedure.level) t.parameters (IsWord_rcw_word _ control_fits) are)
 
   here : stack_at (opened_at img.stacks (img.started + 1) (first_words t)) (img.started + 1) ≡ Some (first_words t)
   here = opened_here img.stacks (img.started + 1) (first_words t)
@@ -137,10 +135,10 @@ module _ (code : Code) (img : Image) (v : IsValid code img) (t : Starting) (fits
     own = shows.names;
     is_frame = record {
       mark = _;
-      marked = ap (λ (o : Option (List Word)). read_as as_mscw (slice_get (words_or o) 0)) here ∙ as_mscw-mscw_word _ mark_fits;
+      marked = ap (λ (o : Option (List Word)). read_as as_mscw (slice_get (words_or o) 0)) here ∙ as_mscw_mscw_word _ mark_fits;
       entered = refl;
       control = _;
-      controlled = ap (λ (o : Option (List Word)). read_as as_rcw (slice_get (words_or o) 1)) here ∙ as_rcw-rcw_word _ control_fits;
+      controlled = ap (λ (o : Option (List Word)). read_as as_rcw (slice_get (words_or o) 1)) here ∙ as_rcw_rcw_word _ control_fits;
     };
     above = omega (arith, ap at_or shows.names);
     mark = omega arith;
@@ -227,10 +225,10 @@ module _ (code : Code) (img : Image) (p : ℕ) (r : Registers) (v : IsValid code
   starting_given (x ∷ y ∷ words) a =
       see_then img (IsReached code img p r v live has) IsStarting (reached (cell_of r x)) _
       (reached_found code img p r v live has (cell_of r x) (λ c e. cell_is code img p r v live has x c e)) (λ w i.
-      see_then img Fits_pcw IsStarting (valid (as_pcw w.word)) _ (there_found img.stacks Fits_pcw InvalidOperand (as_pcw w.word) (λ pcw e. Fits-as_pcw w.word e)) (λ pcw f.
+      see_then img Fits_pcw IsStarting (valid (as_pcw w.word)) _ (there_found img.stacks Fits_pcw InvalidOperand (as_pcw w.word) (λ pcw e. Fits_as_pcw w.word e)) (λ pcw f.
       test_then img (λ (c : Option Cell). Unit {0}) IsStarting (task_of r y) _ (anything (asked img (task_of r y))) (λ c u.
       gives_by img IsStarting (nat_le (length words) most_cells) _ _
-      (λ b. record { fits = f; home = i.cell.frame; are = All-tail IsWord y words (All-tail IsWord x (y ∷ words) a); few = leb-true (length words) most_cells b })
+      (λ b. record { fits = f; home = i.cell.frame; are = All_tail IsWord y words (All_tail IsWord x (y ∷ words) a); few = leb-true (length words) most_cells b })
       (λ b. tt))))
 
   -- a place in the stack of a process that there is

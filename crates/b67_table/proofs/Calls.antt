@@ -6,11 +6,11 @@ use Rattle.std.proofs.lemmas.List.Elements.{All-nil, All-cons}
 use Rattle.b67_list.specs.Numbered.{numbered}
 use Rattle.b67_word.specs.declared.Place.{Place}
 use Rattle.b67_word.specs.Word.{Word, IsWord, operand, truth}
-use Rattle.b67_word.proofs.WordLaws.{operand-word, truth-word}
+use Rattle.b67_word.proofs.WordLaws.{operand_word_is, truth_is_word}
 use Rattle.b67_control.specs.declared.Registers.{Registers}
 use Rattle.b67_control.specs.declared.Mscw.{Mscw}
 use Rattle.b67_control.specs.Control.{event_word}
-use Rattle.b67_control.proofs.ControlLaws.{IsWord-event_word}
+use Rattle.b67_control.proofs.ControlLaws.{IsWord_event_word}
 use Rattle.b67_segment.specs.declared.code.Code.{Code}
 use Rattle.b67_deeds.specs.declared.EventTest.{EventTest}
 use Rattle.b67_deeds.specs.declared.EventTest.TheVariants as test
@@ -118,7 +118,7 @@ module _ (code : Code) (img : Image) (p : ℕ) (r : Registers) (v : IsValid code
   unfolding Ends
   make_event_kept [] =
       chained_kept _ (finished_ends code (write_made p (writes.open_event (place r.stack r.f)) img) p r (open_event_valid code img v (place r.stack r.f)) live has m
-      (event_word (record {}) ∷ []) next low (omega (arith, high)) (All-cons IsWord (event_word (record {})) [] (IsWord-event_word (record {}) tt) (All-nil IsWord)) small)
+      (event_word (record {}) ∷ []) next low (omega (arith, high)) (All-cons IsWord (event_word (record {})) [] (IsWord_event_word (record {}) tt) (All-nil IsWord)) small)
   make_event_kept (w ∷ words) = tt
 
   pub tell_kept : is_able (numbered img.states p) ≡ true → (x : EventTest) (words : List Word) → Gives (Ends code img p) (asked img (tell_event x code r next m words))
@@ -129,7 +129,7 @@ module _ (code : Code) (img : Image) (p : ℕ) (r : Registers) (v : IsValid code
       let told = answers x (state_at (cell_place c) img.events) in
       chained_kept _ (finished_ends code (write_made p (writes.event_deed (tests x) (cell_place c)) img) p r (event_deed_valid code img v p able (tests x) (cell_place c))
       (event_deed_live code img v p able (tests x) (cell_place c) p ∙ live) has m (truth told ∷ []) next low (omega (arith, high))
-      (All-cons IsWord (truth told) [] (truth-word told) (All-nil IsWord)) small))
+      (All-cons IsWord (truth told) [] (truth_is_word told) (All-nil IsWord)) small))
   tell_kept able x (w ∷ v ∷ words) = tt
 
   -- what is done with one event
@@ -152,7 +152,7 @@ module _ (code : Code) (img : Image) (p : ℕ) (r : Registers) (v : IsValid code
       (events_found words) (λ places n. ap suc n))
 
   position : (n : ℕ) → n ≤ most_events → All IsWord (operand (pos n) ∷ [])
-  position n h = All-cons IsWord (operand (pos n)) [] (operand-word (pos n) (omega (arith, h))) (All-nil IsWord)
+  position n h = All-cons IsWord (operand (pos n)) [] (operand_word_is (pos n) (omega (arith, h))) (All-nil IsWord)
 
   module _ (able : is_able (numbered img.states p) ≡ true) (places : List Place) (few : length places ≤ most_events) where
     by_first : (o : Option ℕ) → ((n : ℕ) → o ≡ Some n → n ≤ most_events) → Gives (Ends code img p) (asked img (gone_or_waiting r next m places o))

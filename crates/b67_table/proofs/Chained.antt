@@ -8,7 +8,7 @@ use Rattle.b67_control.specs.declared.Mscw.{Mscw}
 use Rattle.b67_control.specs.declared.Rcw.{Rcw}
 use Rattle.b67_control.specs.Control.{as_mscw, as_rcw, Fits_mscw, Fits_rcw}
 use Rattle.b67_control.specs.Display.{levels}
-use Rattle.b67_control.proofs.ControlLaws.{Fits-as_mscw, Fits-as_rcw}
+use Rattle.b67_control.proofs.ControlLaws.{Fits_as_mscw, Fits_as_rcw}
 use Rattle.b67_store.specs.Store.{word_at}
 use Rattle.b67_table.specs.declared.Below.{Below}
 use Rattle.b67_table.specs.declared.InterruptKind.TheVariants.{BrokenChain}
@@ -32,10 +32,10 @@ module _ (img : Image) where
   control_found x = there_found img.stacks (IsControl x) BrokenChain (read_as as_rcw (word_at img.stacks (place x.stack (x.at + 1)))) (λ c e. e)
 
   mark_fits : (x : Place) (m : Mscw) → read_as as_mscw (word_at img.stacks x) ≡ Some m → Fits_mscw m
-  mark_fits x m e = let k = read_is as_mscw (word_at img.stacks x) m e in Fits-as_mscw k.word k.is
+  mark_fits x m e = let k = read_is as_mscw (word_at img.stacks x) m e in Fits_as_mscw k.word k.is
 
   control_fits : (x : Place) (c : Rcw) → read_as as_rcw (word_at img.stacks (place x.stack (x.at + 1))) ≡ Some c → Fits_rcw c
-  control_fits x c e = let k = read_is as_rcw (word_at img.stacks (place x.stack (x.at + 1))) c e in Fits-as_rcw k.word k.is
+  control_fits x c e = let k = read_is as_rcw (word_at img.stacks (place x.stack (x.at + 1))) c e in Fits_as_rcw k.word k.is
 
   -- ---- down a stack
 

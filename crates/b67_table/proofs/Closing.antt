@@ -4,6 +4,7 @@ use Rattle.std.specs.Prelude.{is_some}
 use Rattle.std.proofs.lemmas.List.Elements.{All-nil}
 use Rattle.std.proofs.Math.Decide.{ℕ_discrete}
 use Rattle.b67_list.specs.Numbered.{numbered, set_numbered}
+use Rattle.b67_list.proofs.Truths.{not_both}
 use Rattle.b67_word.specs.declared.Place.{Place}
 use Rattle.b67_word.specs.Word.{Word, IsWord}
 use Rattle.b67_control.specs.declared.Registers.{Registers}
@@ -11,7 +12,7 @@ use Rattle.b67_control.specs.declared.Descriptor.{Descriptor}
 use Rattle.b67_control.specs.Control.{as_descriptor}
 use Rattle.b67_segment.specs.declared.code.Code.{Code}
 use Rattle.b67_store.specs.Store.{Row, row_at, row_words_or, stack_at, words_of, words_or, closed_at}
-use Rattle.b67_store.proofs.StoreLaws.{closed_here}
+use Rattle.b67_store.proofs.StoreLaws.{closed_here, changed_others}
 use Rattle.b67_deeds.specs.declared.EventAct.TheVariants as act
 use Rattle.b67_deeds.specs.Deeds.{acts}
 use Rattle.b67_events.specs.Events.{closed_from, waiters_at}
@@ -22,13 +23,13 @@ use Rattle.b67_table.specs.Linkage.{closed_by, rows_closed, array_closed, arrays
 use Rattle.b67_table.specs.Writes.{write_made}
 use Rattle.b67_table.specs.Writes as writes
 use Rattle.b67_table.specs.Valid.{IsProcess, IsValid, waits}
-use Rattle.b67_table.proofs.Stacks.{set_other, get_numbered_other}
+use Rattle.b67_table.proofs.Stacks.{get_numbered_other}
 use Rattle.b67_table.proofs.Lists.{numbered_set}
 use Rattle.b67_table.proofs.States.{able_all}
 use Rattle.b67_table.proofs.OwnValid.{process_stays}
 use Rattle.b67_table.proofs.Simple.{Ends}
 use Rattle.b67_table.proofs.Saving.{close_valid}
-use Rattle.b67_table.proofs.EventKept.{not_both, length_states, within_of, able_waits, states_kept, close_events_valid}
+use Rattle.b67_table.proofs.EventKept.{length_states, within_of, able_waits, states_kept, close_events_valid}
 use Rattle.b67_table.proofs.Waking.{able_live, event_deed_valid}
 
 -- ---- rows and events of a frame
@@ -89,9 +90,6 @@ module _ (code : Code) (img : Image) (p : ℕ) where
 -- ---- the end of a process
 
 module _ (code : Code) (img : Image) (p : ℕ) (v : IsValid code img) (able : is_able (numbered img.states p) ≡ true) where
-  gone : Image
-  gone = with_states (with_stacks img (closed_at img.stacks p)) (set_numbered img.states p Ended)
-
   inside : (1 ≤ p) × (p ≤ length img.states)
   inside = within_of img.states p (able_live (numbered img.states p) able)
 
@@ -102,14 +100,14 @@ module _ (code : Code) (img : Image) (p : ℕ) (v : IsValid code img) (able : is
   words_by n (yes e) =
       subst (λ (m : ℕ). All IsWord (words_of (closed_at img.stacks p) m)) (sym e)
       (subst (λ (o : Option (List Word)). All IsWord (words_or o)) (sym (closed_here img.stacks p)) (All-nil IsWord))
-  words_by n (no h) = subst (λ (o : Option (List Word)). All IsWord (words_or o)) (sym (set_other img.stacks p n None h)) (v.words n)
+  words_by n (no h) = subst (λ (o : Option (List Word)). All IsWord (words_or o)) (sym (changed_others img.stacks p n None h)) (v.words n)
 
   stacks_by : (q : ℕ) → 1 ≤ q → Dec (q ≡ p) → is_some (stack_at (closed_at img.stacks p) q) ≡ is_live (numbered (set_numbered img.states p Ended) q)
   stacks_by q one (yes e) =
       subst (λ (m : ℕ). is_some (stack_at (closed_at img.stacks p) m) ≡ is_live (numbered (set_numbered img.states p Ended) m)) (sym e)
       (ap is_some (closed_here img.stacks p) ∙ sym (ap is_live here))
   stacks_by q one (no h) =
-      ap is_some (set_other img.stacks p q None h) ∙ v.stacks q one ∙ sym (ap is_live (get_numbered_other img.states p q Ended h))
+      ap is_some (changed_others img.stacks p q None h) ∙ v.stacks q one ∙ sym (ap is_live (get_numbered_other img.states p q Ended h))
 
   processes_by : (q : ℕ) (r : Registers) → Dec (q ≡ p) → is_live (numbered (set_numbered img.states p Ended) q) ≡ true → numbered img.regs q ≡ Some r
       → IsProcess (with_states (with_stacks img (closed_at img.stacks p)) (set_numbered img.states p Ended)) q r
@@ -118,7 +116,7 @@ module _ (code : Code) (img : Image) (p : ℕ) (v : IsValid code img) (able : is
       (subst (λ (m : ℕ). is_live (numbered (set_numbered img.states p Ended) m) ≡ false) (sym e) (ap is_live here)))
   processes_by q r (no h) l i =
       process_stays img (with_states (with_stacks img (closed_at img.stacks p)) (set_numbered img.states p Ended)) q r
-      (ap words_or (set_other img.stacks p q None h)) (v.processes q r (sym (ap is_live (get_numbered_other img.states p q Ended h)) ∙ l) i)
+      (ap words_or (changed_others img.stacks p q None h)) (v.processes q r (sym (ap is_live (get_numbered_other img.states p q Ended h)) ∙ l) i)
 
   waits_by : (q : ℕ) → Dec (q ≡ p) → waits (numbered img.states q) ≡ true → numbered (set_numbered img.states p Ended) q ≡ numbered img.states q
   waits_by q (yes e) w = able_waits (numbered img.states p) able (subst (λ (m : ℕ). waits (numbered img.states m) ≡ true) e w)
@@ -134,7 +132,7 @@ module _ (code : Code) (img : Image) (p : ℕ) (v : IsValid code img) (able : is
     positions = v.positions;
     some = v.some;
     most = v.most;
-    system = set_other img.stacks p 0 None (λ e. absurd (omega (arith, inside.0, e))) ∙ v.system;
+    system = changed_others img.stacks p 0 None (λ e. absurd (omega (arith, inside.0, e))) ∙ v.system;
     stacks = λ q one. stacks_by q one (ℕ_discrete q p);
     processes = λ q r l i. processes_by q r (ℕ_discrete q p) l i;
     earlier = v.earlier;

@@ -2,9 +2,11 @@
 use Rattle.std.proofs.Common.{◌≡◌, ◌≢◌, sym, ap, subst, ◌∙◌, ℕ, ◌≤◌, List, ◌++◌, length, take, drop, reverse, set, Some}
 use Rattle.std.proofs.lemmas.List.{take-append-drop, reverse-reverse}
 use Rattle.b67_list.specs.Numbered.{numbered, set_numbered}
+use Rattle.b67_list.proofs.Numbered.{numbered_same}
 use Rattle.b67_word.specs.Word.{Word}
 use Rattle.b67_control.specs.declared.Registers.{Registers}
 use Rattle.b67_store.specs.Store.{Stacks, stack_at, words_or, words_of}
+use Rattle.b67_store.proofs.Cited.{put_there}
 use Rattle.b67_table.specs.declared.Private.{Private}
 use Rattle.b67_table.specs.Effect.{gives}
 use Rattle.b67_table.specs.Private.{floor}
@@ -13,16 +15,13 @@ use Rattle.b67_table.specs.Program.{Program, does}
 use Rattle.b67_table.specs.Privacy.{RegistersStay, ProcessStands}
 use Rattle.b67_table.specs.Parts.{Beneath, IsApart, put_into}
 use Rattle.b67_table.proofs.Stacks.{set_here}
-use Rattle.b67_table.proofs.Lists.{set_there, numbered_same, numbered_within, numbered_set, numbered_from, above_put}
+use Rattle.b67_table.proofs.Lists.{numbered_within, numbered_set, numbered_from, above_put}
 use Rattle.b67_table.proofs.Parts.{others_stay_apart, program_beneath}
 
 pub gives_is : (a b : Image) → gives a ≡ gives b → a ≡ b
 gives_is a b e = cc
 
 module _ (img : Image) (q : ℕ) (r : Registers) (st : ProcessStands img q r) where
-  W : List Word
-  W = words_of img.stacks r.stack
-
   -- the part that is there, put in its own place
   unchanged : with_private img q (floor r) (private_of img r) ≡ img
   unchanged =
@@ -30,7 +29,7 @@ module _ (img : Image) (q : ℕ) (r : Registers) (st : ProcessStands img q r) wh
       ap (λ (z : List Word). take (floor r) (words_of img.stacks r.stack) ++ z) (reverse-reverse (drop (floor r) (words_of img.stacks r.stack)))
       ∙ take-append-drop (floor r) (words_of img.stacks r.stack) ∙ ap words_or st.opened in
       ap (λ (ws : List Word). record img { stacks = set img.stacks r.stack (Some ws); regs = set_numbered img.regs q r }) there
-      ∙ ap (λ (s : Stacks). record img { stacks = s; regs = set_numbered img.regs q r }) (set_there img.stacks r.stack st.words st.opened)
+      ∙ ap (λ (s : Stacks). record img { stacks = s; regs = set_numbered img.regs q r }) (put_there img.stacks r.stack st.words st.opened)
       ∙ ap (λ (rs : List Registers). record img { regs = rs }) (numbered_same img.regs q r st.has)
 
   beneath_own : Beneath img q (floor r) (private_of img r)

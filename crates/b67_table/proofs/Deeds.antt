@@ -5,7 +5,7 @@ use Rattle.b67_deeds.specs.declared.EventTest.TheVariants as test
 use Rattle.b67_deeds.specs.Deeds.{EventDeed, acts, tests, is_of_several}
 use Rattle.b67_ops.specs.Intrinsics.{intrinsic_of}
 use Rattle.b67_table.specs.Arguments.{IntrinsicRow}
-use Rattle.b67_table.specs.Intrinsics.{on_event, tell_event, wait_for_any, row_of_intrinsic}
+use Rattle.b67_table.specs.Intrinsics.{on_event, tell_event, row_of_intrinsic}
 
 -- a statement does it, and a test tells what the event answers; a wait for several has a row of its own
 abbrev pub deed_row : EventDeed → IntrinsicRow
@@ -23,6 +23,3 @@ deed_rows (tests test.Happened) e = refl
 deed_rows (tests test.Available) e = refl
 deed_rows (tests test.Fix) e = refl
 deed_rows (tests test.WaitAny) e = cc
-
-pub several_row : row_of_intrinsic (intrinsic_of (tests test.WaitAny)) ≡ wait_for_any
-several_row = refl

@@ -2,6 +2,7 @@
 use Rattle.std.proofs.Common.{◌≡◌, ◌≢◌, refl, sym, ap, subst, ◌∙◌, ℕ, ◌≤◌, Bool, true, false, Option, Some, cond}
 use Rattle.std.specs.Prelude.{◌&&◌, nat_le}
 use Rattle.b67_list.specs.Numbered.{numbered, set_numbered}
+use Rattle.b67_list.proofs.Truths.{both}
 use Rattle.b67_num.specs.declared.FaultKind.{FaultKind}
 use Rattle.b67_word.specs.declared.Place.{Place}
 use Rattle.b67_control.specs.declared.Registers.{Registers}
@@ -129,10 +130,6 @@ module _ (code : Code) (p q : ℕ) (r : Registers) (part : Private) (img : Image
     plain_after = λ b e. plain_then b e own;
     able_after = λ b e. (after_new b e).able;
   }
-
-both : (a b : Bool) → a && b ≡ true → a ≡ true
-both true b e = refl
-both false b e = cc
 
 pub plain_operators_commute : PlainOperatorsCommute
 unfolding plain table Y

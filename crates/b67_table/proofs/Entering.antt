@@ -10,7 +10,7 @@ use Rattle.b67_word.specs.Word.{Word, IsWord, operand}
 use Rattle.b67_control.specs.declared.Registers.{Registers}
 use Rattle.b67_control.specs.declared.Pcw.{Pcw}
 use Rattle.b67_control.specs.Control.{as_mscw, Fits_mscw, as_rcw, Fits_rcw, Fits_pcw}
-use Rattle.b67_control.proofs.ControlLaws.{IsWord-mscw_word, IsWord-rcw_word, as_mscw-mscw_word, as_rcw-rcw_word}
+use Rattle.b67_control.proofs.ControlLaws.{IsWord_mscw_word, IsWord_rcw_word, as_mscw_mscw_word, as_rcw_rcw_word}
 use Rattle.b67_segment.specs.declared.code.Code.{Code}
 use Rattle.b67_store.specs.Store.{words_of, word_at}
 use Rattle.b67_table.specs.declared.Entry.{Entry}
@@ -123,9 +123,6 @@ module _ (code : Code) (img : Image) (p : ℕ) (r : Registers) (v : IsValid code
     mark : ℕ
     mark = r.s - taken
 
-    rest : List Word
-    rest = selected pcw.names selector
-
     more : Entry → List Word
     more e = entered_mark e.home (r.s - taken - r.f) ∷ control_word r next pcw.level ∷ selected pcw.names selector
 
@@ -134,9 +131,6 @@ module _ (code : Code) (img : Image) (p : ℕ) (r : Registers) (v : IsValid code
 
     new : Entry → Registers
     new e = entered r (r.s - taken + 2 + length (selected pcw.names selector)) (r.s - taken) pcw e 0
-
-    words : Entry → List Word
-    words e = take (r.s - taken) (words_of img.stacks p) ++ more e
 
     within : r.s - taken ≤ length (words_of img.stacks p)
     within = omega (arith, own.size)
@@ -152,11 +146,11 @@ module _ (code : Code) (img : Image) (p : ℕ) (r : Registers) (v : IsValid code
           mark = record { entered = true; stack = e.home.stack; displacement = e.home.at; df = r.s - taken - r.f };
           marked = ap (λ (ws : List Word). read_as as_mscw (slice_get ws (r.s - taken))) here
               ∙ ap (λ (n : ℕ). read_as as_mscw (slice_get (take (r.s - taken) (words_of img.stacks p) ++ more e) n)) (plus_zero (r.s - taken))
-              ∙ ap (read_as as_mscw) (front_there (words_of img.stacks p) (more e) (r.s - taken) 0 within) ∙ as_mscw-mscw_word _ mf;
+              ∙ ap (read_as as_mscw) (front_there (words_of img.stacks p) (more e) (r.s - taken) 0 within) ∙ as_mscw_mscw_word _ mf;
           entered = refl;
           control = record { segment = r.segment; psr = next % 6; pir = next / 6; caller_level = r.ll; caller_cells = r.cells; own_level = pcw.level };
           controlled = ap (λ (ws : List Word). read_as as_rcw (slice_get ws (r.s - taken + 1))) here
-              ∙ ap (read_as as_rcw) (front_there (words_of img.stacks p) (more e) (r.s - taken) 1 within) ∙ as_rcw-rcw_word _ cf;
+              ∙ ap (read_as as_rcw) (front_there (words_of img.stacks p) (more e) (r.s - taken) 1 within) ∙ as_rcw_rcw_word _ cf;
         }
       where
         plus_zero : (n : ℕ) → n ≡ n + 0
@@ -174,8 +168,8 @@ module _ (code : Code) (img : Image) (p : ℕ) (r : Registers) (v : IsValid code
         let low : r.s - taken < 2 ^ 16 = omega (arith, small) in
         let shows = k.shows low in
         framed_valid code img p r v live has (r.s - taken) (more e) (new e) within
-        (All-cons IsWord (entered_mark e.home (r.s - taken - r.f)) (control_word r next pcw.level ∷ selected pcw.names selector) (IsWord-mscw_word _ (mark_fits e.home (r.s - taken - r.f) k.home (omega (arith, low))))
-        (All-cons IsWord (control_word r next pcw.level) (selected pcw.names selector) (IsWord-rcw_word _ (control_fits next pcw.level k.back f.1.1.1.0))
+        (All-cons IsWord (entered_mark e.home (r.s - taken - r.f)) (control_word r next pcw.level ∷ selected pcw.names selector) (IsWord_mscw_word _ (mark_fits e.home (r.s - taken - r.f) k.home (omega (arith, low))))
+        (All-cons IsWord (control_word r next pcw.level) (selected pcw.names selector) (IsWord_rcw_word _ (control_fits next pcw.level k.back f.1.1.1.0))
         (selected_are pcw.names selector few)))
         (record {
           stack = own.stack;

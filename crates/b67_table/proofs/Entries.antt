@@ -5,12 +5,13 @@ use Rattle.std.proofs.lemmas.Bool.{leb-true}
 use Rattle.std.proofs.lemmas.List.{length-set}
 use Rattle.std.proofs.lemmas.List.Elements.{All-set}
 use Rattle.b67_list.specs.Numbered.{numbered}
+use Rattle.b67_list.proofs.Lists.{get_set_other, set_set_here}
 use Rattle.b67_word.specs.declared.Place.{Place}
 use Rattle.b67_word.specs.Word.{Word, IsWord}
 use Rattle.b67_control.specs.declared.Registers.{Registers}
 use Rattle.b67_control.specs.declared.Pcw.{Pcw}
 use Rattle.b67_control.specs.Control.{as_mscw, as_rcw, Fits_pcw}
-use Rattle.b67_control.proofs.ControlLaws.{IsWord-mscw_word, IsWord-rcw_word, as_mscw-mscw_word, as_rcw-rcw_word}
+use Rattle.b67_control.proofs.ControlLaws.{IsWord_mscw_word, IsWord_rcw_word, as_mscw_mscw_word, as_rcw_rcw_word}
 use Rattle.b67_segment.specs.declared.code.Code.{Code}
 use Rattle.b67_store.specs.Store.{Stacks, words_of, with_stack}
 use Rattle.b67_table.specs.declared.Entry.{Entry}
@@ -22,11 +23,9 @@ use Rattle.b67_table.specs.Image.{Image, is_live, with_stacks}
 use Rattle.b67_table.specs.Program.{asked, done, save, registers, changed}
 use Rattle.b67_table.specs.Linkage.{control_word, entered_mark, entering, entered, entry}
 use Rattle.b67_table.specs.Valid.{IsHeld, IsProcess, IsValid}
-use Rattle.b67_table.proofs.Stacks.{set_set_here}
 use Rattle.b67_table.proofs.Lists.{get_set}
 use Rattle.b67_table.proofs.Keeping.{Gives}
 use Rattle.b67_table.proofs.Finding.{see_then}
-use Rattle.b67_table.proofs.Saving.{get_set_other}
 use Rattle.b67_table.proofs.OwnValid.{own_image, words_here, own_valid}
 use Rattle.b67_table.proofs.Simple.{Ends, ends_own}
 use Rattle.b67_table.proofs.Entering.{IsEntry, entering_found, mark_fits, control_fits, code_small}
@@ -64,8 +63,8 @@ module _ (code : Code) (img : Image) (p : ℕ) (r : Registers) (v : IsValid code
         (ap (λ (n : ℕ). changed p (save (place n r.f) (entered_mark e.home df) (save (place n (r.f + 1)) (control_word r next pcw.level) (registers (new e) done))) img)
         own.stack ∙ saved_is r.f (entered_mark e.home df) (control_word r next pcw.level) (new e))
         (λ small. own_valid code img p r v live has (set (set (words_of img.stacks p) r.f (entered_mark e.home df)) (r.f + 1) (control_word r next pcw.level)) (new e)
-        (All-set IsWord (set (words_of img.stacks p) r.f (entered_mark e.home df)) (r.f + 1) (control_word r next pcw.level) (IsWord-rcw_word _ cf)
-        (All-set IsWord (words_of img.stacks p) r.f (entered_mark e.home df) (IsWord-mscw_word _ mf) (v.words p))) refl
+        (All-set IsWord (set (words_of img.stacks p) r.f (entered_mark e.home df)) (r.f + 1) (control_word r next pcw.level) (IsWord_rcw_word _ cf)
+        (All-set IsWord (words_of img.stacks p) r.f (entered_mark e.home df) (IsWord_mscw_word _ mf) (v.words p))) refl
         (record {
           stack = own.stack;
           size = own.size ∙ sym (ap length here ∙ length-set (set (words_of img.stacks p) r.f (entered_mark e.home df)) (r.f + 1) (control_word r next pcw.level) ∙ first);
@@ -78,13 +77,13 @@ module _ (code : Code) (img : Image) (p : ℕ) (r : Registers) (v : IsValid code
             marked = ap (λ (ws : List Word). read_as as_mscw (slice_get ws r.f)) here
                 ∙ ap (read_as as_mscw) (get_set_other (set (words_of img.stacks p) r.f (entered_mark e.home df)) (r.f + 1) r.f (control_word r next pcw.level) (not_next r.f)
                 ∙ get_set (words_of img.stacks p) r.f (entered_mark e.home df) (omega (arith, own.size, high)))
-                ∙ as_mscw-mscw_word _ mf;
+                ∙ as_mscw_mscw_word _ mf;
             entered = refl;
             control = _;
             controlled = ap (λ (ws : List Word). read_as as_rcw (slice_get ws (r.f + 1))) here
                 ∙ ap (read_as as_rcw)
                 (get_set (set (words_of img.stacks p) r.f (entered_mark e.home df)) (r.f + 1) (control_word r next pcw.level) (omega (arith, own.size, high, first)))
-                ∙ as_rcw-rcw_word _ cf;
+                ∙ as_rcw_rcw_word _ cf;
           };
           above = omega (arith, ap at_or shows.names, high);
           mark = own.mark;

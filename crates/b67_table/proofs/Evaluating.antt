@@ -9,12 +9,13 @@ use Rattle.b67_control.specs.declared.Registers.{Registers}
 use Rattle.b67_control.specs.declared.Pcw.{Pcw}
 use Rattle.b67_control.specs.declared.Descriptor.{Descriptor}
 use Rattle.b67_control.specs.Control.{as_pcw}
-use Rattle.b67_control.proofs.ControlLaws.{Fits-as_pcw, IsWord-sirw_word}
+use Rattle.b67_control.proofs.ControlLaws.{Fits_as_pcw, IsWord_sirw_word}
 use Rattle.b67_ops.specs.declared.BranchKind.{BranchKind}
 use Rattle.b67_ops.specs.declared.BranchKind.TheVariants.{Brfl, Brtr, Brun}
 use Rattle.b67_ops.specs.declared.Couple.{Couple}
 use Rattle.b67_segment.specs.declared.code.Code.{Code}
 use Rattle.b67_store.specs.Store.{Row, Stacks, with_stack, words_of, row_at, row_words_or}
+use Rattle.b67_store.proofs.Cited.{put_there}
 use Rattle.b67_table.specs.declared.Cell.{Cell}
 use Rattle.b67_table.specs.declared.Reached.{Reached}
 use Rattle.b67_table.specs.declared.InterruptKind.TheVariants.{InvalidOperand}
@@ -33,14 +34,13 @@ use Rattle.b67_table.proofs.Keeping.{Gives}
 use Rattle.b67_table.proofs.Finding.{Found, look_then, see_then, test_then, see_gives, there_found, found_by, gives_by}
 use Rattle.b67_table.proofs.Referring.{IsCell, word_is, couple_is, cell_is, IsReached, named_found, reached_found, popped_found, operand_found}
 use Rattle.b67_table.proofs.PrivateValid.{get_all}
-use Rattle.b67_table.proofs.Lists.{set_there}
 use Rattle.b67_table.proofs.OwnValid.{own_image, opened}
 use Rattle.b67_table.proofs.Simple.{Ends, ends_own, moved_valid, dropped_ends, replaced_ends}
 use Rattle.b67_table.proofs.Entering.{accidental_kept}
 
 module _ (code : Code) (img : Image) (p : ℕ) (r : Registers) (v : IsValid code img) (live : is_live (numbered img.states p) ≡ true)
     (has : numbered img.regs p ≡ Some r) (next : ℕ) (small : next < 2 ^ 16) where
-  own : IsProcess img p r
+  pub own : IsProcess img p r
   own = v.processes p r live has
 
   unfoldable pub E : Change → Type 0
@@ -81,7 +81,7 @@ module _ (code : Code) (img : Image) (p : ℕ) (r : Registers) (v : IsValid code
       same place =
           ap (λ (i : Image). changed p (registers (record r { place = place }) done) i)
           (sym (ap (λ (ws : List Word). with_stacks img (with_stack img.stacks p ws)) whole
-          ∙ ap (λ (st : Stacks). with_stacks img st) (set_there img.stacks p (words_of img.stacks p) (opened code img p r v live has))))
+          ∙ ap (λ (st : Stacks). with_stacks img st) (put_there img.stacks p (words_of img.stacks p) (opened code img p r v live has))))
 
   pub turn_kept : (kind : BranchKind) (target : ℕ) → target < 2 ^ 16 → Gives (Ends code img p) (asked img (branch_turn kind target r next))
   unfolding E
@@ -103,7 +103,7 @@ module _ (code : Code) (img : Image) (p : ℕ) (r : Registers) (v : IsValid code
 
   entered_kept : (taken : ℕ) (pcw : Pcw) (w : Word) (home : Place) (selector : ℕ) → as_pcw w ≡ Some pcw → IsHeld home → selector < 2 ^ 16 → floor r + taken ≤ r.s
       → Gives (Ends code img p) (asked img (accidental r next taken pcw home selector))
-  entered_kept taken pcw w home selector e h few high = accidental_kept code img p r v live has next taken pcw home selector (Fits-as_pcw w e) h few high
+  entered_kept taken pcw w home selector e h few high = accidental_kept code img p r v live has next taken pcw home selector (Fits_as_pcw w e) h few high
 
   value_by : (w : Reached) (o : Option Pcw) → as_pcw w.word ≡ o → IsReached code img p r v live has w → Gives E (asked img (value_or_entry r next w o))
   unfolding E
@@ -172,7 +172,7 @@ module _ (code : Code) (img : Image) (p : ℕ) (r : Registers) (v : IsValid code
 
   cell_is_word : (c : Cell) → IsCell c → IsWord (cell_word c)
   cell_is_word c i =
-      IsWord-sirw_word (record { stack = c.frame.stack; displacement = c.frame.at; index = c.index }) (i.frame.stack, (i.frame.displacement, (i.index, tt)))
+      IsWord_sirw_word (record { stack = c.frame.stack; displacement = c.frame.at; index = c.index }) (i.frame.stack, (i.frame.displacement, (i.index, tt)))
 
   cell_by : (w : Reached) (o : Option Pcw) → as_pcw w.word ≡ o → Reach w → Gives E (asked img (cell_or_entry r next w o))
   unfolding E Reach

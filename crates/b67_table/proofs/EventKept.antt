@@ -6,13 +6,14 @@ use Rattle.std.proofs.Math.Decide.{ℕ_discrete}
 use Rattle.std.proofs.lemmas.Bool.{cases_Bool, cond-false, or_cases, or_parts, eq-eqb}
 use Rattle.std.proofs.lemmas.List.{length-set}
 use Rattle.b67_list.specs.Numbered.{numbered, set_numbered}
+use Rattle.b67_list.proofs.Truths.{not_both}
 use Rattle.b67_word.specs.declared.Place.{Place}
 use Rattle.b67_segment.specs.declared.code.Code.{Code}
 use Rattle.b67_deeds.specs.Events.{EventState}
 use Rattle.b67_events.specs.Events.{Event, same_place, is_from, is_open, event_at, state_of, waiters_at, procurers_at, is_waiting, fresh, event_opened, closed_from, list_of}
 use Rattle.b67_events.specs.Laws.{EventsAreApart}
 use Rattle.b67_events.specs.Once.{EachOnce, waiters_of, procurers_of}
-use Rattle.b67_events.proofs.Listed.{same_place-true, same_place-self}
+use Rattle.b67_events.proofs.Listed.{same_place_true, same_place_self}
 use Rattle.b67_events.proofs.EventLaws.{one_event, stay_apart}
 use Rattle.b67_events.proofs.OnceLaws.{waits_once}
 use Rattle.b67_table.specs.declared.ProcessState.{ProcessState}
@@ -52,7 +53,7 @@ stands_at : (q : ℕ) (es : List Event) → EventsAreApart es → is_waiting q e
 stands_at q [] apart e = cc
 stands_at q (x ∷ xs) apart e = elim (or_cases (list_any (λ p. q == p) (x.state.waiters ++ x.state.procurers)) (is_waiting q xs) e) [
   | inl i ↦
-      let here : event_at x.place (x ∷ xs) ≡ Some x = ap (λ b. cond b (Some x) (event_at x.place xs)) (same_place-self x.place x.place refl) in (
+      let here : event_at x.place (x ∷ xs) ≡ Some x = ap (λ b. cond b (Some x) (event_at x.place xs)) (same_place_self x.place x.place refl) in (
         x.place,
         elim (in_either q x.state.waiters x.state.procurers i) [
           | inl j ↦ inl (ap (λ o. list_any (λ p. q == p) (state_of o).waiters) here ∙ j)
@@ -78,15 +79,11 @@ stands_at q (x ∷ xs) apart e = elim (or_cases (list_any (λ p. q == p) (x.stat
 
     later : (at : Place) → is_open at xs ≡ true → event_at at (x ∷ xs) ≡ event_at at xs
     later at h = elim (cases_Bool (same_place x.place at)) [
-      | inl k ↦ let no : is_open x.place xs ≡ true = ap (λ a. is_open a xs) (same_place-true x.place at k) ∙ h in let clash : false ≡ true = sym apart.0 ∙ no in cc
+      | inl k ↦ let no : is_open x.place xs ≡ true = ap (λ a. is_open a xs) (same_place_true x.place at k) ∙ h in let clash : false ≡ true = sym apart.0 ∙ no in cc
       | inr k ↦ cond-false (same_place x.place at) (Some x) (event_at at xs) k
     ]
 
 -- ---- states
-
-pub not_both : (b : Bool) → b ≡ true → b ≡ false → ⊥
-not_both true e f = cc
-not_both false e f = cc
 
 pub length_states : (xs : List ProcessState) (p : ℕ) (s : ProcessState) → length (set_numbered xs p s) ≡ length xs
 length_states xs zero s = refl
@@ -225,9 +222,9 @@ module _ (es : List Event) (lists : List (List Place)) (xs : List ProcessState) 
       by_test : (to : Place) (b : Bool) → same_place to at ≡ b
           → (event_at to (event_opened at es) ≡ event_at to es) ⊎ ((waiters_at to (event_opened at es) ≡ []) × (procurers_at to (event_opened at es) ≡ []))
       by_test to true e =
-          let here : event_at to (event_opened at es) ≡ Some (fresh at) = ap (λ a. event_at a (event_opened at es)) (same_place-true to at e) ∙ one_event.opened_here at es in
+          let here : event_at to (event_opened at es) ≡ Some (fresh at) = ap (λ a. event_at a (event_opened at es)) (same_place_true to at e) ∙ one_event.opened_here at es in
           inr (ap (λ o. (state_of o).waiters) here, ap (λ o. (state_of o).procurers) here)
-      by_test to false e = inl (one_event.opened_elsewhere at to (λ k. not_both (same_place to at) (same_place-self to at k) e) es)
+      by_test to false e = inl (one_event.opened_elsewhere at to (λ k. not_both (same_place to at) (same_place_self to at k) e) es)
 
 -- ---- images
 

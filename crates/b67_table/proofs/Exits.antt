@@ -2,16 +2,17 @@
 use Rattle.std.proofs.Common.{◌≡◌, refl, sym, ap, subst, ◌∙◌, ℕ, zero, suc, ◌+◌, ◌-◌, ◌<◌, ◌≤◌, ◌^◌, ◌&&◌, not, Bool, true, false, ℤ, pos, negsuc, List, [], ◌∷◌, ◌++◌, length, take, drop, All, Some, None, Ok, Err, cond, arith}
 use Rattle.std.specs.Prelude.{nat_eq, nat_le, nat_lt}
 use Rattle.std.proofs.lemmas.Bool.{leb-true, eqb-true, eq-eqb, and_parts}
-use Rattle.b67_table.proofs.EventKept.{not_both}
 use Rattle.std.proofs.lemmas.List.Elements.{All-nil, All-cons}
 use Rattle.std.proofs.Math.Seq.{take-length}
 use Rattle.b67_list.specs.Numbered.{numbered, set_numbered}
+use Rattle.b67_list.proofs.Truths.{not_both}
 use Rattle.b67_word.specs.declared.Place.{Place}
 use Rattle.b67_word.specs.Word.{Word, IsWord}
 use Rattle.b67_control.specs.declared.Registers.{Registers}
 use Rattle.b67_control.specs.declared.Mscw.{Mscw}
 use Rattle.b67_segment.specs.declared.code.Code.{Code}
 use Rattle.b67_store.specs.Store.{Stacks, words_of, with_stack}
+use Rattle.b67_store.proofs.Cited.{put_there}
 use Rattle.b67_table.specs.declared.Leaving.{Leaving}
 use Rattle.b67_table.specs.declared.InterruptKind.TheVariants.{InvalidOperand}
 use Rattle.b67_table.specs.Limits.{most_cells, segment_numbers, end_of_code}
@@ -29,7 +30,6 @@ use Rattle.b67_table.specs.Arguments.{Three, three, argument_number_in}
 use Rattle.b67_table.specs.GoingTo.{Passed, Passing, passing, passed_by, Target, level_in, target_of, frames_left, passed_frames, go_to}
 use Rattle.b67_table.specs.Rows.{exit, is_result, return_value}
 use Rattle.b67_table.specs.Valid.{IsHeld, IsFrame, IsProcess, IsValid}
-use Rattle.b67_table.proofs.Lists.{set_there}
 use Rattle.b67_table.proofs.Keeping.{Gives}
 use Rattle.b67_table.proofs.Finding.{Found, look_then, see_then, gives_by, there_found, found_by, anything_found}
 use Rattle.b67_table.proofs.Chained.{IsBelow, left_found, Shows, rebuilt_found}
@@ -48,7 +48,7 @@ pointed_valid code i p r v live has place h =
     let whole : take r.s (words_of i.stacks p) ++ [] ≡ words_of i.stacks p =
     nothing (take r.s (words_of i.stacks p)) ∙ ap (λ (n : ℕ). take n (words_of i.stacks p)) own.size ∙ take-length (words_of i.stacks p) in
     subst (λ (st : Stacks). IsValid code (record i { stacks = st; regs = set_numbered i.regs p (record r { place = place }) }))
-    (ap (λ (ws : List Word). with_stack i.stacks p ws) whole ∙ set_there i.stacks p (words_of i.stacks p) (opened code i p r v live has))
+    (ap (λ (ws : List Word). with_stack i.stacks p ws) whole ∙ put_there i.stacks p (words_of i.stacks p) (opened code i p r v live has))
     (moved_valid code i p r v live has r.s [] r.s r.f place (omega arith) own.above (All-nil IsWord) (omega arith) own.mark h own.room)
   where
     nothing : (xs : List Word) → xs ++ [] ≡ xs

@@ -4,6 +4,7 @@ use Rattle.std.specs.Prelude.{nat_le, ◌&&◌, is_some}
 use Rattle.std.proofs.lemmas.Bool.{leb-true}
 use Rattle.std.proofs.lemmas.List.Elements.{All-nil}
 use Rattle.b67_list.specs.Numbered.{numbered}
+use Rattle.b67_list.proofs.Numbers.{some_same}
 use Rattle.b67_word.specs.Word.{Word, IsWord}
 use Rattle.b67_control.specs.declared.Registers.{Registers}
 use Rattle.b67_control.specs.Control.{mscw_word, as_mscw, rcw_word, as_rcw, pcw_word}
@@ -102,13 +103,10 @@ first_is_process = record {
   pointer = at_most 1 65536 refl;
 }
 
-some_is : {A : Type 0} (a b : A) → Some a ≡ Some b → a ≡ b
-some_is a b e = cc
-
 first_processes : (p : ℕ) (r : Registers) → is_live (numbered first_image.states p) ≡ true → numbered first_image.regs p ≡ Some r → IsProcess first_image p r
 unfolding first_image
 first_processes zero r l e = cc
-first_processes (suc zero) r l e = subst (IsProcess first_image 1) (some_is first_registers r e) first_is_process
+first_processes (suc zero) r l e = subst (IsProcess first_image 1) (some_same first_registers r e) first_is_process
 first_processes (suc (suc p)) r l e = cc
 
 first_stacks : (p : ℕ) → 1 ≤ p → is_some (stack_at first_image.stacks p) ≡ is_live (numbered first_image.states p)
@@ -126,7 +124,7 @@ no_critical p r e c i = cc
 first_earlier : (p : ℕ) (r : Registers) → numbered first_image.regs p ≡ Some r → (c : Place) → r.critical ≡ Some c → c.stack < p
 unfolding first_image
 first_earlier zero r e c i = cc
-first_earlier (suc zero) r e c i = no_critical 1 r (critical_of_first r (some_is first_registers r e)) c i
+first_earlier (suc zero) r e c i = no_critical 1 r (critical_of_first r (some_same first_registers r e)) c i
 first_earlier (suc (suc p)) r e c i = cc
 
 -- ---- rows and events

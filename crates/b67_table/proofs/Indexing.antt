@@ -8,7 +8,7 @@ use Rattle.b67_word.specs.Word.{Word, IsWord, as_whole}
 use Rattle.b67_control.specs.declared.Registers.{Registers}
 use Rattle.b67_control.specs.declared.Descriptor.{Descriptor}
 use Rattle.b67_control.specs.Control.{as_descriptor, descriptor_word, Fits_descriptor}
-use Rattle.b67_control.proofs.ControlLaws.{Fits-as_descriptor, IsWord-descriptor_word}
+use Rattle.b67_control.proofs.ControlLaws.{Fits_as_descriptor, IsWord_descriptor_word}
 use Rattle.b67_segment.specs.declared.code.Code.{Code}
 use Rattle.b67_store.specs.Store.{Row, row_at, with_word, with_row_word}
 use Rattle.b67_table.specs.declared.Cell.{Cell}
@@ -22,7 +22,7 @@ use Rattle.b67_table.specs.Image.{Image, with_stacks, with_rows, is_live}
 use Rattle.b67_table.specs.Program.{answer, row, asked, see, ◌>>=◌, Change, done, save, registers}
 use Rattle.b67_table.specs.Arrays.{is_array_descriptor, array_in, array_by, array_of, as_indexed, index_in, index_or_fault, Subscripted, subscripted, element, if_row, subscripted_element, index_program, index_and_load, index_mother}
 use Rattle.b67_table.specs.Rows.{after_store, kept_words, stored, store_by, store}
-use Rattle.b67_table.specs.Valid.{IsProcess, IsValid}
+use Rattle.b67_table.specs.Valid.{IsValid}
 use Rattle.b67_table.proofs.Keeping.{Gives}
 use Rattle.b67_table.proofs.Finding.{Found, look_then, see_then, test_then, there_found, found_by}
 use Rattle.b67_table.proofs.Referring.{cell_is, IsReached, named_found, reached_found, IsTwo, two_found, operand_found}
@@ -35,7 +35,7 @@ record IsSub (r : Registers) (t : Subscripted) : Type 0 where
   fits : Fits_descriptor t.array
   high : floor r + 2 ≤ r.s
 
-index_below : (z : ℤ) (most n : ℕ) → index_in z most ≡ Some n → n < most
+pub index_below : (z : ℤ) (most n : ℕ) → index_in z most ≡ Some n → n < most
 index_below (pos k) most n e = by_test (nat_lt k most) refl e
   where
     by_test : (b : Bool) → nat_lt k most ≡ b → cond b (Some k) None ≡ Some n → n < most
@@ -45,9 +45,6 @@ index_below (negsuc k) most n e = cc
 
 module _ (code : Code) (img : Image) (p : ℕ) (r : Registers) (v : IsValid code img) (live : is_live (numbered img.states p) ≡ true)
     (has : numbered img.regs p ≡ Some r) (next : ℕ) (small : next < 2 ^ 16) where
-  own : IsProcess img p r
-  own = v.processes p r live has
-
   E : Change → Type 0
   E = Ends code img p
 
@@ -56,7 +53,7 @@ module _ (code : Code) (img : Image) (p : ℕ) (r : Registers) (v : IsValid code
   array_in_found : (mother : Bool) (w : Word) (o : Option Descriptor) → as_descriptor w ≡ o → Found Fits_descriptor (look_seen img.stacks (array_in mother o))
   array_in_found mother w None e = tt
   array_in_found mother w (Some d) e =
-      found_by img.stacks Fits_descriptor (is_array_descriptor mother d) (found d) invalid (λ b. Fits-as_descriptor w e) (λ b. tt)
+      found_by img.stacks Fits_descriptor (is_array_descriptor mother d) (found d) invalid (λ b. Fits_as_descriptor w e) (λ b. tt)
 
   array_by_found : (mother : Bool) (w : Word) (o : Option Cell) → cell_of r w ≡ o → Found Fits_descriptor (look_seen img.stacks (array_by r mother w o))
   array_by_found mother w None e = array_in_found mother w (as_descriptor w) refl
@@ -86,7 +83,7 @@ module _ (code : Code) (img : Image) (p : ℕ) (r : Registers) (v : IsValid code
       test_then img (λ (n : ℕ). n < t.array.length) E (index_or_fault (index_in t.subscript t.array.length)) _
       (index_given (index_in t.subscript t.array.length) t.array.length (index_below t.subscript t.array.length)) (λ n h.
       replaced_ends code img p r v live has 2 next (descriptor_word (record t.array { copy = true; indexed = true; length = n })) i.high
-      (IsWord-descriptor_word (record t.array { copy = true; indexed = true; length = n }) (omega (arith, h, i.fits.0), i.fits.1)) small))
+      (IsWord_descriptor_word (record t.array { copy = true; indexed = true; length = n }) (omega (arith, h, i.fits.0), i.fits.1)) small))
 
   -- an element, and two words that lie at the floor or above
   Element : Word → Type 0
@@ -123,9 +120,9 @@ module _ (code : Code) (img : Image) (p : ℕ) (r : Registers) (v : IsValid code
   index_mother_kept =
       test_then img Element E (subscripted_element r true) _ (subscripted_given true) (λ w i.
       see_then img Fits_descriptor E (valid (as_descriptor w)) _
-      (there_found img.stacks Fits_descriptor InvalidOperand (as_descriptor w) (λ d e. Fits-as_descriptor w e)) (λ d f.
+      (there_found img.stacks Fits_descriptor InvalidOperand (as_descriptor w) (λ d e. Fits_as_descriptor w e)) (λ d f.
       replaced_ends code img p r v live has 2 next (descriptor_word (record d { copy = true })) i.1
-      (IsWord-descriptor_word (record d { copy = true }) f) small))
+      (IsWord_descriptor_word (record d { copy = true }) f) small))
 
 -- ---- storing
 

@@ -59,13 +59,6 @@ module _ (r : Registers) where
   pop_keeps : (p : Private) → Kept p → Gives Below (pop p)
   pop_keeps p k = by_test Below (nat_lt (floor p.regs) p.regs.s) _ (interrupts StackUnderflow) (pop_by p p.words k) tt
 
-  -- a word is made of the one on top, or of the two
-  one_keeps : (f : Word → Effect Word) (p : Private) → Kept p → Gives Kept (pop p >>= (λ (x : Word × Private). f x.0 >>= (λ (w : Word). gives (push w x.1))))
-  unfolding Kept Below
-  one_keeps f p k =
-      then_gives Below Kept (pop p) _ (pop_keeps p k) (λ x kx.
-      then_gives (λ (w : Word). Unit {0}) Kept (f x.0) _ (anything (f x.0)) (λ w u. kx))
-
   wholes_keep : (made : ℤ → ℤ → Effect Word) (p : Private) → Kept p → Gives Kept (wholes made p)
   unfolding Kept Below
   wholes_keep made p k =

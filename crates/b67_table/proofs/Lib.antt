@@ -39,3 +39,4 @@ pub mod Begun
 pub mod Deeds
 pub mod AllValid
 pub mod Working
+pub mod Cited

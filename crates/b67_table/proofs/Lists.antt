@@ -1,29 +1,8 @@
 -- Lists by number, in which an item is put where it stands.
-use Rattle.std.proofs.Common.{◌≡◌, sym, ap, refl, ℕ, zero, suc, ◌<◌, ◌≤◌, List, [], ◌∷◌, ◌++◌, length, take, drop, set, Option, Some, None, arith}
+use Rattle.std.proofs.Common.{◌≡◌, refl, ℕ, zero, suc, ◌<◌, ◌≤◌, List, [], ◌∷◌, ◌++◌, length, take, drop, set, Some, arith}
 use Rattle.std.specs.Prelude.{slice_get}
 use Rattle.b67_list.specs.Numbered.{numbered, set_numbered}
-use Rattle.b67_store.specs.Store.{at_number}
-
-pub set_there : {X : Type 0} (xs : List (Option X)) (n : ℕ) (x : X) → at_number xs n ≡ Some x → set xs n (Some x) ≡ xs
-set_there [] n x e = refl
-set_there (None ∷ xs) zero x e = cc
-set_there {X = X} (Some y ∷ xs) zero x e = ap (λ (z : Option X). z ∷ xs) (sym e)
-set_there {X = X} (y ∷ xs) (suc n) x e = ap (λ (zs : List (Option X)). y ∷ zs) (set_there xs n x e)
-
-pub set_same : {X : Type 0} (xs : List X) (n : ℕ) (x : X) → slice_get xs n ≡ Some x → set xs n x ≡ xs
-set_same [] n x e = refl
-set_same {X = X} (y ∷ xs) zero x e =
-    let i : y ≡ x = cc in ap (λ (z : X). z ∷ xs) (sym i)
-set_same {X = X} (y ∷ xs) (suc n) x e = ap (λ (zs : List X). y ∷ zs) (set_same xs n x e)
-
-pub numbered_same : {X : Type 0} (xs : List X) (q : ℕ) (x : X) → numbered xs q ≡ Some x → set_numbered xs q x ≡ xs
-numbered_same xs zero x e = refl
-numbered_same xs (suc k) x e = set_same xs k x e
-
-pub get_within : {X : Type 0} (xs : List X) (n : ℕ) (x : X) → slice_get xs n ≡ Some x → n < length xs
-get_within [] n x e = cc
-get_within (y ∷ xs) zero x e = omega arith
-get_within (y ∷ xs) (suc n) x e = omega (arith, get_within xs n x e)
+use Rattle.b67_list.proofs.Lists.{get_within}
 
 pub numbered_within : {X : Type 0} (xs : List X) (q : ℕ) (x : X) → numbered xs q ≡ Some x → q ≤ length xs
 numbered_within xs zero x e = omega arith

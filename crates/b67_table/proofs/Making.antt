@@ -10,7 +10,7 @@ use Rattle.b67_word.specs.Word.{Word, IsWord, operand}
 use Rattle.b67_control.specs.declared.Registers.{Registers}
 use Rattle.b67_control.specs.declared.Mscw.{Mscw}
 use Rattle.b67_control.specs.Control.{as_descriptor, Fits_descriptor}
-use Rattle.b67_control.proofs.ControlLaws.{IsWord-descriptor_word, as_descriptor-descriptor_word}
+use Rattle.b67_control.proofs.ControlLaws.{IsWord_descriptor_word, as_descriptor_descriptor_word}
 use Rattle.b67_segment.specs.declared.code.Code.{Code}
 use Rattle.b67_store.specs.Store.{Row, Rows, row_at, row_with, row_words, row_words_or, opened_at, least_free, with_row_word, zero_row, live_words, counted_words, count_limit, row_limit}
 use Rattle.b67_store.proofs.StoreLaws.{opened_here, opened_others, free_here, counts}
@@ -91,9 +91,6 @@ module _ (code : Code) (i : Image) (v : IsValid code i) (count : ℕ) (counted :
   n : ℕ
   n = least_free i.rows
 
-  new : Rows
-  new = opened_at i.rows (least_free i.rows) (zero_row count counted)
-
   counted_more : counted_words (opened_at i.rows (least_free i.rows) (zero_row count counted)) ≡ counted_words i.rows + weight counted count
   counted_more =
       counts.opened i.rows (least_free i.rows) (zero_row count counted) (free_here i.rows) ∙ ap (λ (k : ℕ). counted_words i.rows + k) (live_zero count counted)
@@ -126,10 +123,10 @@ array_fits : (mother : Bool) (n address : ℕ) → n < 2 ^ 22 → address < row_
 array_fits mother n address h a = (h, (omega (arith, a), tt))
 
 array_is_word : (mother : Bool) (n address : ℕ) → n < 2 ^ 22 → address < row_limit → IsWord (array_word mother n address)
-array_is_word mother n address h a = IsWord-descriptor_word _ (array_fits mother n address h a)
+array_is_word mother n address h a = IsWord_descriptor_word _ (array_fits mother n address h a)
 
 array_is_shallow : (n address : ℕ) → n < 2 ^ 22 → address < row_limit → is_no_mother (as_descriptor (array_word false n address)) ≡ true
-array_is_shallow n address h a = ap is_no_mother (as_descriptor-descriptor_word _ (array_fits false n address h a))
+array_is_shallow n address h a = ap is_no_mother (as_descriptor_descriptor_word _ (array_fits false n address h a))
 
 -- ---- arrays are made
 

@@ -2,14 +2,17 @@
 use Rattle.std.proofs.Common.{◌≡◌, ◌≢◌, refl, sym, ap, subst, ◌∙◌, ℕ, zero, suc, ◌+◌, ◌<◌, ◌≤◌, List, [], ◌∷◌, ◌++◌, length, take, drop, set, Option, Some, arith}
 use Rattle.std.specs.Prelude.{slice_get}
 use Rattle.b67_list.specs.Numbered.{set_numbered}
+use Rattle.b67_list.proofs.Lists.{set_set_here}
 use Rattle.b67_word.specs.declared.Place.{Place}
 use Rattle.b67_word.specs.Word.{Word}
 use Rattle.b67_control.specs.declared.Registers.{Registers}
 use Rattle.b67_store.specs.Store.{Stacks, stack_at, words_or, words_of, with_stack, with_word, opened_at}
+use Rattle.b67_store.proofs.StoreLaws.{changed_others, opened_others}
 use Rattle.b67_table.specs.declared.ProcessState.{ProcessState}
 use Rattle.b67_table.specs.Image.{is_ended, critical_in, critical_of}
 use Rattle.b67_table.specs.Questions.{live_criticals, with_critical, unless}
-use Rattle.b67_table.proofs.Stacks.{set_here, set_other, opened_other, set_set_other, set_set_here, open_set_other, get_numbered_other, below_word, below_words, save_below}
+use Rattle.b67_table.proofs.Stacks.{set_here, set_set_other, open_set_other, get_numbered_other, below_word, below_words, save_below}
+use Rattle.b67_table.proofs.Lists.{get_set}
 
 -- ---- critical places
 
@@ -26,11 +29,6 @@ pub criticals_same : (states : List ProcessState) (rs : List Registers) (q : ℕ
     → live_criticals states (set_numbered rs q r) ≡ live_criticals states rs
 criticals_same states rs zero r h e = refl
 criticals_same states rs (suc k) r h e = criticals_set states rs k r (omega (arith, h)) e
-
-pub get_set : {X : Type 0} (xs : List X) (n : ℕ) (a : X) → n < length xs → slice_get (set xs n a) n ≡ Some a
-get_set [] n a h = absurd (omega (arith, h))
-get_set (x ∷ xs) zero a h = refl
-get_set (x ∷ xs) (suc n) a h = get_set xs n a (omega (arith, h))
 
 pub critical_here : (rs : List Registers) (q : ℕ) (r : Registers) → q ≤ length rs → critical_of rs q ≡ r.critical
     → critical_of (set_numbered rs q r) q ≡ critical_of rs q
@@ -54,7 +52,7 @@ module _ (s base : ℕ) (top : List Word) where
 
   pub over_other : (st : Stacks) (n : ℕ) → n ≢ s → words_of (over st) n ≡ words_of st n
   unfolding over
-  over_other st n h = ap words_or (set_other st s n (Some (take base (words_of st s) ++ top)) h)
+  over_other st n h = ap words_or (changed_others st s n (Some (take base (words_of st s) ++ top)) h)
 
   pub high_words : (st : Stacks) (ws : List Word) → stack_at st s ≡ Some ws → base ≤ length ws → base ≤ length (words_of st s)
   high_words st ws e h = subst (λ (us : List Word). base ≤ length us) (sym (ap words_or e)) h
@@ -80,13 +78,13 @@ module _ (s base : ℕ) (top : List Word) where
       ap (λ (us : List Word). set (over st) n (f us)) (over_other st n h)
       ∙ set_set_other st s n (Some (take base (words_of st s) ++ top)) (f (words_of st n)) (λ i. h (sym i))
       ∙ ap (λ (us : List Word). set (set st n (f (words_of st n))) s (Some (take base us ++ top)))
-      (sym (ap words_or (set_other st n s (f (words_of st n)) (λ i. h (sym i)))))
+      (sym (ap words_or (changed_others st n s (f (words_of st n)) (λ i. h (sym i)))))
 
   pub opened_elsewhere : (st : Stacks) (ws us : List Word) (n : ℕ) → stack_at st s ≡ Some ws → n ≢ s → opened_at (over st) n us ≡ over (opened_at st n us)
   unfolding over
   opened_elsewhere st ws us n e h =
       open_set_other st s n ws us (Some (take base (words_of st s) ++ top)) h e
-      ∙ ap (λ (vs : List Word). set (opened_at st n us) s (Some (take base vs ++ top))) (sym (ap words_or (opened_other st n s us (λ i. h (sym i)))))
+      ∙ ap (λ (vs : List Word). set (opened_at st n us) s (Some (take base vs ++ top))) (sym (ap words_or (opened_others st n s us (λ i. h (sym i)))))
 
   pub saved_here : (st : Stacks) (ws : List Word) (at : ℕ) (w : Word) → stack_at st s ≡ Some ws → base ≤ length ws → at < base
       → with_stack (over st) s (set (words_of (over st) s) at w) ≡ over (with_stack st s (set (words_of st s) at w))

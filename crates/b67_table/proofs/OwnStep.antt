@@ -4,6 +4,7 @@ use Rattle.std.specs.Prelude.{slice_get}
 use Rattle.std.proofs.lemmas.List.{length-take-le}
 use Rattle.std.proofs.lemmas.List.Elements.{All-take, All-append}
 use Rattle.b67_list.specs.Numbered.{numbered}
+use Rattle.b67_list.proofs.Lists.{set_set_here}
 use Rattle.b67_word.specs.Word.{Word, IsWord}
 use Rattle.b67_control.specs.declared.Registers.{Registers}
 use Rattle.b67_control.specs.Control.{as_mscw, as_rcw}
@@ -17,7 +18,7 @@ use Rattle.b67_table.specs.Image.{Image, is_live, with_stacks}
 use Rattle.b67_table.specs.Program.{done, cut, registers, changed}
 use Rattle.b67_table.specs.Moves.{pushed}
 use Rattle.b67_table.specs.Valid.{IsDisplay, IsFrame, IsProcess, IsValid}
-use Rattle.b67_table.proofs.Stacks.{set_set_here, below_word}
+use Rattle.b67_table.proofs.Stacks.{below_word}
 use Rattle.b67_table.proofs.OwnValid.{own_image, words_here, own_valid}
 
 -- what the registers of a process must be, given the words of its stack
@@ -38,13 +39,7 @@ module _ (code : Code) (img : Image) (p : ℕ) (r : Registers) (v : IsValid code
   own : IsProcess img p r
   own = v.processes p r live has
 
-  below : ℕ → List Word
-  below n = take n (words_of img.stacks p)
-
   -- ---- the change as one image
-
-  stack_is : List Word → Image
-  stack_is words = with_stacks img (with_stack img.stacks p words)
 
   again : (us ws : List Word) → with_stack (with_stack img.stacks p us) p ws ≡ with_stack img.stacks p ws
   again us ws = set_set_here img.stacks p (Some us) (Some ws)

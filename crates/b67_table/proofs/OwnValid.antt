@@ -10,11 +10,12 @@ use Rattle.b67_control.specs.declared.Registers.{Registers}
 use Rattle.b67_control.specs.Control.{as_mscw, as_rcw}
 use Rattle.b67_segment.specs.declared.code.Code.{Code}
 use Rattle.b67_store.specs.Store.{stack_at, words_of, words_or, with_stack}
+use Rattle.b67_store.proofs.StoreLaws.{changed_others}
 use Rattle.b67_table.specs.Look.{read_as}
 use Rattle.b67_table.specs.Chains.{place}
 use Rattle.b67_table.specs.Image.{Image, is_live}
 use Rattle.b67_table.specs.Valid.{IsFrame, IsProcess, IsValid}
-use Rattle.b67_table.proofs.Stacks.{set_here, set_other, get_numbered_other}
+use Rattle.b67_table.proofs.Stacks.{set_here, get_numbered_other}
 use Rattle.b67_table.proofs.Lists.{numbered_set, numbered_within}
 use Rattle.b67_table.proofs.FirstValid.{counted, open_is}
 
@@ -64,7 +65,7 @@ module _ (code : Code) (img : Image) (p : ℕ) (r : Registers) (v : IsValid code
   words_here words = ap words_or (set_here img.stacks p (words_of img.stacks p) words opened)
 
   other_words : (words : List Word) (n : ℕ) → n ≢ p → words_of (with_stack img.stacks p words) n ≡ words_of img.stacks n
-  other_words words n h = ap words_or (set_other img.stacks p n (Some words) h)
+  other_words words n h = ap words_or (changed_others img.stacks p n (Some words) h)
 
   all_words : (words : List Word) → All IsWord words → (n : ℕ) → Dec (n ≡ p) → All IsWord (words_of (with_stack img.stacks p words) n)
   all_words words a n (yes e) = subst (λ (m : ℕ). All IsWord (words_of (with_stack img.stacks p words) m)) (sym e) (subst (All IsWord) (sym (words_here words)) a)
@@ -74,7 +75,7 @@ module _ (code : Code) (img : Image) (p : ℕ) (r : Registers) (v : IsValid code
   all_stacks words q one (yes e) =
       subst (λ (m : ℕ). is_some (stack_at (with_stack img.stacks p words) m) ≡ is_live (numbered img.states m)) (sym e)
       (ap is_some (set_here img.stacks p (words_of img.stacks p) words opened) ∙ sym live)
-  all_stacks words q one (no h) = ap is_some (set_other img.stacks p q (Some words) h) ∙ v.stacks q one
+  all_stacks words q one (no h) = ap is_some (changed_others img.stacks p q (Some words) h) ∙ v.stacks q one
 
   here : (s : Registers) → numbered (set_numbered img.regs p s) p ≡ Some s
   here s = numbered_set img.regs p s (counted p r img.regs has) (numbered_within img.regs p r has)
@@ -109,7 +110,7 @@ module _ (code : Code) (img : Image) (p : ℕ) (r : Registers) (v : IsValid code
     positions = v.positions;
     some = v.some;
     most = v.most;
-    system = set_other img.stacks p 0 (Some words) not_zero ∙ v.system;
+    system = changed_others img.stacks p 0 (Some words) not_zero ∙ v.system;
     stacks = λ q one. all_stacks words q one (ℕ_discrete q p);
     processes = λ q t l i. all_processes words s k q t (ℕ_discrete q p) l i;
     earlier = λ q t i. all_earlier s e q t (ℕ_discrete q p) i;

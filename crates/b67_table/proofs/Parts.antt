@@ -8,6 +8,7 @@ use Rattle.b67_word.specs.declared.Place.{Place}
 use Rattle.b67_word.specs.Word.{Word}
 use Rattle.b67_control.specs.declared.Registers.{Registers}
 use Rattle.b67_store.specs.Store.{Stacks, stack_at, words_of, with_word, opened_at}
+use Rattle.b67_store.proofs.StoreLaws.{changed_others, opened_others}
 use Rattle.b67_table.specs.Effect.{Effect, gives, faults, interrupts}
 use Rattle.b67_table.specs.declared.Private.{Private}
 use Rattle.b67_table.specs.Image.{Image, with_private, critical_in, critical_of}
@@ -18,7 +19,7 @@ use Rattle.b67_table.specs.Writes as writes
 use Rattle.b67_table.specs.Program.{Test, answer, interrupt, fault, ask, asked, Change, done, look_up, write, Program, changed, effect_of, does}
 use Rattle.b67_table.specs.Touches.{QuestionReads, Changes, TestReads, ChangeTouches, EffectTouches}
 use Rattle.b67_table.specs.Parts.{Beneath, IsApart, put_into, OthersStayApart}
-use Rattle.b67_table.proofs.Stacks.{set_here, set_other, opened_other, numbered_other, numbered_append, get_numbered_other, get_numbered_append}
+use Rattle.b67_table.proofs.Stacks.{set_here, numbered_other, numbered_append, get_numbered_other, get_numbered_append}
 use Rattle.b67_table.proofs.Over.{criticals_same, critical_same, over, high_words, word_same, words_same, elsewhere, opened_elsewhere, saved}
 
 -- ---- questions
@@ -87,9 +88,6 @@ module _ (q base : ℕ) (part : Private) where
       ∙ asked_same img b (more (told img c)) (λ x r. apart x (inr r))
 
   -- ---- writes
-
-  away : (stack : ℕ) → (stack ≡ part.regs.stack → ⊥) → stack ≢ part.regs.stack
-  away stack h = h
 
   -- a stack whose words from a place on are touched is not the part's
   not_from : (stack at : ℕ) → ((x : Place) → (x.stack ≡ stack) × (at ≤ x.at) → IsAbove x → ⊥) → stack ≢ part.regs.stack
@@ -165,7 +163,7 @@ module _ (q base : ℕ) (part : Private) where
   saved_beneath : (img : Image) → Beneath img q base part → (x : Place) (w : Word) → Dec (x.stack ≡ part.regs.stack)
       → Beneath (record img { stacks = with_word img.stacks x w }) q base part
   saved_beneath img b x w (no h) =
-      with_opened img _ b (set_other img.stacks x.stack part.regs.stack (Some (set (words_of img.stacks x.stack) x.at w)) (λ e. h (sym e))) refl
+      with_opened img _ b (changed_others img.stacks x.stack part.regs.stack (Some (set (words_of img.stacks x.stack) x.at w)) (λ e. h (sym e))) refl
   saved_beneath img b x w (yes e) = record {
     words = set (words_of img.stacks x.stack) x.at w;
     opened = subst (λ (n : ℕ). stack_at (with_word img.stacks x w) n ≡ Some (set (words_of img.stacks x.stack) x.at w)) e
@@ -183,10 +181,10 @@ module _ (q base : ℕ) (part : Private) where
   beneath_after p h img b (writes.save x w) apart = saved_beneath img b x w (ℕ_discrete x.stack part.regs.stack)
   beneath_after p h img b (writes.cut stack n) apart =
       with_opened img _ b
-      (set_other img.stacks stack part.regs.stack (Some (take n (words_of img.stacks stack))) (λ e. not_from stack n apart (sym e))) refl
+      (changed_others img.stacks stack part.regs.stack (Some (take n (words_of img.stacks stack))) (λ e. not_from stack n apart (sym e))) refl
   beneath_after p h img b (writes.push stack w) apart =
       with_opened img _ b
-      (set_other img.stacks stack part.regs.stack (Some (words_of img.stacks stack ++ w ∷ [])) (λ e. not_top img b stack apart (sym e))) refl
+      (changed_others img.stacks stack part.regs.stack (Some (words_of img.stacks stack ++ w ∷ [])) (λ e. not_top img b stack apart (sym e))) refl
   beneath_after p h img b (writes.registers r) apart = record {
     words = b.words;
     opened = b.opened;
@@ -205,13 +203,13 @@ module _ (q base : ℕ) (part : Private) where
   beneath_after p h img b (writes.line bytes) apart = with_opened img _ b refl refl
   beneath_after p h img b (writes.start r words) apart = record {
     words = b.words;
-    opened = opened_other img.stacks r.stack part.regs.stack words (λ e. not_all r.stack apart (sym e)) ∙ b.opened;
+    opened = opened_others img.stacks r.stack part.regs.stack words (λ e. not_all r.stack apart (sym e)) ∙ b.opened;
     high = b.high;
     within = omega (arith, b.within, length-append img.regs (r ∷ []));
     critical = ap critical_in (get_numbered_append img.regs (r ∷ []) q b.within) ∙ b.critical;
   }
   beneath_after p h img b (writes.end_process stack) apart =
-      with_opened img _ b (set_other img.stacks stack part.regs.stack None (λ e. not_all stack apart (sym e))) refl
+      with_opened img _ b (changed_others img.stacks stack part.regs.stack None (λ e. not_all stack apart (sym e))) refl
 
   -- ---- changes and programs
 

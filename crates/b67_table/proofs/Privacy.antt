@@ -7,6 +7,7 @@ use Rattle.b67_ops.specs.declared.Operator.{Operator}
 use Rattle.b67_ops.specs.declared.BadCode.{BadCode}
 use Rattle.b67_segment.specs.declared.code.Code.{Code}
 use Rattle.b67_store.specs.Store.{stack_at, words_or, words_of}
+use Rattle.b67_store.proofs.StoreLaws.{changed_others}
 use Rattle.b67_table.specs.declared.InterruptKind.TheVariants.{BadCode as bad_code}
 use Rattle.b67_table.specs.declared.Private.{Private}
 use Rattle.b67_table.specs.Effect.{Effect, gives, faults, interrupts}
@@ -15,7 +16,7 @@ use Rattle.b67_table.specs.Image.{Image, with_private, private_of, with_effect, 
 use Rattle.b67_table.specs.Rows.{TableRow, private_part, action, row}
 use Rattle.b67_table.specs.Table.{raw, private_op, part_by, class_at, class_by, is_private, private_at, private_in, private_next, operator_at, by_row, by_operator, by_registers}
 use Rattle.b67_table.specs.Privacy.{ProcessStands, RegistersStay, LeavesAllElse, PrivateIsPrivate}
-use Rattle.b67_table.proofs.Stacks.{set_here, set_other, get_numbered_other}
+use Rattle.b67_table.proofs.Stacks.{set_here, get_numbered_other}
 use Rattle.b67_table.proofs.Lists.{numbered_set, numbered_from, numbered_within}
 use Rattle.b67_table.proofs.Keeping.{private_keeps}
 
@@ -43,9 +44,6 @@ pub next_private : (code : Code) (img : Image) (p : ℕ) (r : Registers) → num
 next_private code img p r has e = by_decoded code r (operator_at code r) refl (ap (private_in code) (sym has) ∙ e)
 
 -- ---- its effect on an image
-
-refused : Effect Image
-refused = interrupts bad_code
 
 pub raw_is : (code : Code) (img : Image) (p : ℕ) (r : Registers) → is_live (numbered img.states p) ≡ true → numbered img.regs p ≡ Some r → (n : Next code r)
     → raw code img p ≡ with_effect img p (floor r) (n.change n.next (private_of img r))
@@ -95,7 +93,7 @@ leaves_all p r img part st k =
           ∙ ap (λ (o : Option (List Word)). take (floor r) (words_or o)) (set_here img.stacks part.regs.stack st.words words opened)
           ∙ ap (λ (n : ℕ). take (floor r) (take (floor r) (words_of img.stacks n) ++ reverse part.words)) k.0
           ∙ front (floor r) (words_of img.stacks r.stack) (reverse part.words) high;
-      stacks = λ n h. set_other img.stacks part.regs.stack n (Some words) (λ e. h (e ∙ k.0));
+      stacks = λ n h. changed_others img.stacks part.regs.stack n (Some words) (λ e. h (e ∙ k.0));
       registers = λ q h. get_numbered_other img.regs p q part.regs h;
       rows = refl;
       events = refl;

@@ -4,7 +4,7 @@ use Rattle.std.specs.Prelude.{nat_lt, bit_and, bit_or}
 use Rattle.b67_num.specs.declared.Calculation.TheVariants.{Sum, Difference, Product, WholeQuotient, TruncatedQuotient, Remainder}
 use Rattle.b67_num.specs.declared.Relation.TheVariants.{Less, LessOrEqual, Equal, NotEqual, GreaterOrEqual, Greater}
 use Rattle.b67_num.specs.Whole.{related, calculated}
-use Rattle.b67_num.proofs.WholeLaws.{calculated-fits}
+use Rattle.b67_num.proofs.WholeLaws.{calculated_fits}
 use Rattle.b67_word.specs.Word.{word, operand}
 use Rattle.b67_ops.specs.declared.BranchKind.{BranchKind}
 use Rattle.b67_ops.specs.declared.Operator.{Operator}
@@ -24,12 +24,12 @@ use Rattle.b67_table.proofs.PrivateKept.{IsPart, onward_kept, arithmetic_kept, r
 
 module _ (base : ℕ) where
   plain_kept : (kind : PlainKind) (next : ℕ) (m : Private) → next < 2 ^ 16 → IsPart base m → Gives (Left base) (part_by (plain_row kind) next m)
-  plain_kept kinds.Add next m h k = onward_kept base (arithmetic (calculated Sum)) next m h (arithmetic_kept base (calculated Sum) (calculated-fits Sum) m k)
-  plain_kept kinds.Subt next m h k = onward_kept base (arithmetic (calculated Difference)) next m h (arithmetic_kept base (calculated Difference) (calculated-fits Difference) m k)
-  plain_kept kinds.Mult next m h k = onward_kept base (arithmetic (calculated Product)) next m h (arithmetic_kept base (calculated Product) (calculated-fits Product) m k)
-  plain_kept kinds.Divd next m h k = onward_kept base (arithmetic (calculated WholeQuotient)) next m h (arithmetic_kept base (calculated WholeQuotient) (calculated-fits WholeQuotient) m k)
-  plain_kept kinds.Idiv next m h k = onward_kept base (arithmetic (calculated TruncatedQuotient)) next m h (arithmetic_kept base (calculated TruncatedQuotient) (calculated-fits TruncatedQuotient) m k)
-  plain_kept kinds.Rdiv next m h k = onward_kept base (arithmetic (calculated Remainder)) next m h (arithmetic_kept base (calculated Remainder) (calculated-fits Remainder) m k)
+  plain_kept kinds.Add next m h k = onward_kept base (arithmetic (calculated Sum)) next m h (arithmetic_kept base (calculated Sum) (calculated_fits Sum) m k)
+  plain_kept kinds.Subt next m h k = onward_kept base (arithmetic (calculated Difference)) next m h (arithmetic_kept base (calculated Difference) (calculated_fits Difference) m k)
+  plain_kept kinds.Mult next m h k = onward_kept base (arithmetic (calculated Product)) next m h (arithmetic_kept base (calculated Product) (calculated_fits Product) m k)
+  plain_kept kinds.Divd next m h k = onward_kept base (arithmetic (calculated WholeQuotient)) next m h (arithmetic_kept base (calculated WholeQuotient) (calculated_fits WholeQuotient) m k)
+  plain_kept kinds.Idiv next m h k = onward_kept base (arithmetic (calculated TruncatedQuotient)) next m h (arithmetic_kept base (calculated TruncatedQuotient) (calculated_fits TruncatedQuotient) m k)
+  plain_kept kinds.Rdiv next m h k = onward_kept base (arithmetic (calculated Remainder)) next m h (arithmetic_kept base (calculated Remainder) (calculated_fits Remainder) m k)
   plain_kept kinds.Less next m h k = onward_kept base (relation (related Less)) next m h (relation_kept base (related Less) m k)
   plain_kept kinds.Greq next m h k = onward_kept base (relation (related GreaterOrEqual)) next m h (relation_kept base (related GreaterOrEqual) m k)
   plain_kept kinds.Grtr next m h k = onward_kept base (relation (related Greater)) next m h (relation_kept base (related Greater) m k)

@@ -6,13 +6,14 @@ use Rattle.std.proofs.lemmas.List.Elements.{All-cons}
 use Rattle.b67_num.specs.declared.NumFault.{NumFault}
 use Rattle.b67_num.specs.Whole as num
 use Rattle.b67_num.specs.Whole.{negation_of}
+use Rattle.b67_num.proofs.WholeLaws.{negation_of_fits}
 use Rattle.b67_word.specs.declared.Place.{Place}
 use Rattle.b67_word.specs.Word.{Word, IsWord, word, operand, truth, as_whole}
-use Rattle.b67_word.proofs.WordLaws.{truth-word}
+use Rattle.b67_word.proofs.WordLaws.{truth_is_word}
 use Rattle.b67_control.specs.declared.Irw.{Irw}
 use Rattle.b67_control.specs.declared.Sirw.{Sirw}
 use Rattle.b67_control.specs.Control.{as_irw, as_sirw}
-use Rattle.b67_control.proofs.ControlLaws.{Fits-as_irw, Fits-as_sirw, IsWord-sirw_word, IsWord-mscw_word}
+use Rattle.b67_control.proofs.ControlLaws.{Fits_as_irw, Fits_as_sirw, IsWord_sirw_word, IsWord_mscw_word}
 use Rattle.b67_ops.specs.declared.BranchKind.{BranchKind}
 use Rattle.b67_ops.specs.declared.BranchKind.TheVariants.{Brfl, Brtr, Brun}
 use Rattle.b67_store.specs.Store.{stack_limit}
@@ -24,7 +25,7 @@ use Rattle.b67_table.specs.Private.{display_at, floor, frame, top, with_words, p
 use Rattle.b67_table.specs.PrivateRows.{pointed, onward, wholes, arithmetic, relation, negated, logic, complement, complemented, dropped, exchanged, doubled, stuffed_at, stuffed_or_invalid, stuffed, stuff, open_mark, mark, make_cells, is_taken, by_bit, branch, result_or_fault}
 use Rattle.b67_table.specs.Valid.{IsHeld}
 use Rattle.b67_table.proofs.Keeping.{Gives, then_gives}
-use Rattle.b67_table.proofs.Wordly.{All-tail, All-head, operand_is_word, whole_is_small, negation_is_small, tagged_is_word, complement_fits}
+use Rattle.b67_table.proofs.Wordly.{All_tail, All_head, operand_is_word, whole_is_small, tagged_is_word, complement_fits}
 
 -- ---- tests
 
@@ -58,10 +59,10 @@ module _ (base : ℕ) where
   took m (w ∷ ws) e k h =
       let words : All IsWord (w ∷ ws) = subst (All IsWord) e k.words in
       let size : base + length (w ∷ ws) ≡ m.regs.s = subst (λ (us : List Word). base + length us ≡ m.regs.s) e k.size in (
-        All-head IsWord w ws words,
+        All_head IsWord w ws words,
         record {
           size = omega (arith, size);
-          words = All-tail IsWord w ws words;
+          words = All_tail IsWord w ws words;
           seen = k.seen;
           mark = k.mark;
           cells = k.cells;
@@ -130,13 +131,13 @@ module _ (base : ℕ) where
       wholes_kept (λ (a b : ℤ). result_or_fault (op a b) >>= (λ (z : ℤ). gives (operand z))) (λ a b. made_word (op a b) (small a b)) m k
 
   pub relation_kept : (holds : ℤ → ℤ → Bool) (m : Private) → IsPart base m → Gives Left (relation holds m)
-  relation_kept holds m k = wholes_kept (λ (a b : ℤ). gives (truth (holds a b))) (λ a b. truth-word (holds a b)) m k
+  relation_kept holds m k = wholes_kept (λ (a b : ℤ). gives (truth (holds a b))) (λ a b. truth_is_word (holds a b)) m k
 
   pub negated_kept : (m : Private) → IsPart base m → Gives Left (negated m)
   unfolding Taken Small
   negated_kept m k =
       then_gives Taken Left (pop m) _ (popped m k) (λ x kx. then_gives Small Left (whole_of_word x.0) _ (whole_small x.0) (λ a u.
-      given (push (operand (negation_of a)) x.1) (pushed _ x.1 (operand_is_word (negation_of a) (negation_is_small a u)) kx.1)))
+      given (push (operand (negation_of a)) x.1) (pushed _ x.1 (operand_is_word (negation_of a) (negation_of_fits a u)) kx.1)))
 
   pub logic_kept : (op : ℕ → ℕ → ℕ) → ((a b : ℕ) → a < 2 ^ 48 → b < 2 ^ 48 → op a b < 2 ^ 48) → (m : Private) → IsPart base m → Gives Left (logic op m)
   unfolding Taken Bits
@@ -173,14 +174,14 @@ module _ (base : ℕ) where
   irw_stuffed index None h held = tt
   irw_stuffed index (Some f) h held =
       let i : IsHeld f = held f refl in
-      IsWord-sirw_word (record { stack = f.stack; displacement = f.at; index = index }) (i.stack, (i.displacement, (h, tt)))
+      IsWord_sirw_word (record { stack = f.stack; displacement = f.at; index = index }) (i.stack, (i.displacement, (h, tt)))
 
   pub sirw_stays : (w : Word) (o : Option Sirw) → as_sirw w ≡ o → Gives IsWord (stuffed_or_invalid o)
   sirw_stays w None e = tt
-  sirw_stays w (Some s) e = IsWord-sirw_word s (Fits-as_sirw w e)
+  sirw_stays w (Some s) e = IsWord_sirw_word s (Fits_as_sirw w e)
 
   pub stuffed_is_word : (m : Private) (w : Word) (o : Option Irw) → as_irw w ≡ o → IsPart base m → Gives IsWord (stuffed m w o)
-  stuffed_is_word m w (Some i) e k = irw_stuffed i.index (display_at m.regs i.level) (Fits-as_irw w e).1.0 (k.seen i.level)
+  stuffed_is_word m w (Some i) e k = irw_stuffed i.index (display_at m.regs i.level) (Fits_as_irw w e).1.0 (k.seen i.level)
   stuffed_is_word m w None e k = sirw_stays w (as_sirw w) refl
 
   pub stuff_kept : (m : Private) → IsPart base m → Gives Left (stuff m)
@@ -198,7 +199,7 @@ module _ (base : ℕ) where
       (λ b small. record {
         size = omega (arith, k.size);
         words = All-cons IsWord (open_mark (m.regs.s - m.regs.f)) m.words
-            (IsWord-mscw_word (record { entered = false; stack = 0; displacement = 0; df = m.regs.s - m.regs.f })
+            (IsWord_mscw_word (record { entered = false; stack = 0; displacement = 0; df = m.regs.s - m.regs.f })
             (omega arith, (omega arith, (omega (arith, small), tt)))) k.words;
         seen = k.seen;
         mark = omega (arith, small);

@@ -5,12 +5,12 @@ use Rattle.std.proofs.lemmas.List.{length-reverse, length-take-le}
 use Rattle.std.proofs.lemmas.List.Elements.{All-take, All-drop, All-append}
 use Rattle.b67_ops.specs.declared.Operator.{Operator}
 use Rattle.b67_ops.specs.Spelling.{Fits}
-use Rattle.b67_ops.proofs.Laws.{decoded-ok, decoded-within}
+use Rattle.b67_ops.proofs.Laws.{decoded_ok, decoded_within}
 use Rattle.b67_segment.specs.declared.code.Segment.{Segment}
 use Rattle.b67_segment.specs.declared.code.Code.{Code}
 use Rattle.b67_segment.specs.Fetching.{fetched_from}
 use Rattle.b67_segment.specs.Syllables.{syllables}
-use Rattle.b67_segment.proofs.Fetches.{syllables-bytes, length-syllables}
+use Rattle.b67_segment.proofs.Fetches.{syllables_bytes, length_syllables}
 use Rattle.b67_word.specs.declared.Place.{Place}
 use Rattle.b67_word.specs.Word.{Word, IsWord}
 use Rattle.b67_list.specs.Numbered.{numbered, set_numbered}
@@ -32,7 +32,7 @@ use Rattle.b67_table.proofs.Stacks.{below_word}
 use Rattle.b67_table.proofs.Lists.{numbered_set, numbered_from, numbered_within}
 use Rattle.b67_table.proofs.Limit.{new_of}
 use Rattle.b67_table.proofs.Privacy.{Next, next_private, raw_is, part_keeps, Put, put_by}
-use Rattle.b67_table.proofs.Wordly.{All-reverse, All-tail, All-head}
+use Rattle.b67_table.proofs.Wordly.{All_reverse, All_tail, All_head}
 use Rattle.b67_table.proofs.PrivateKept.{IsPart}
 use Rattle.b67_table.proofs.PrivateAll.{private_op_kept}
 use Rattle.b67_table.proofs.OwnValid.{own_image, words_here, own_valid}
@@ -47,8 +47,8 @@ nothing_in (suc k) (suc n) f e = nothing_in k n f e
 held_in : (frames : List Place) (k n : ℕ) (f : Place) → All IsHeld frames
     → slice_index_or (map (λ (x : Place). Some x) frames ++ replicate k None) n None ≡ Some f → IsHeld f
 held_in [] k n f a e = absurd (nothing_in k n f e)
-held_in (x ∷ xs) k zero f a e = let same : x ≡ f = cc in subst IsHeld same (All-head IsHeld x xs a)
-held_in (x ∷ xs) k (suc n) f a e = held_in xs k n f (All-tail IsHeld x xs a) e
+held_in (x ∷ xs) k zero f a e = let same : x ≡ f = cc in subst IsHeld same (All_head IsHeld x xs a)
+held_in (x ∷ xs) k (suc n) f a e = held_in xs k n f (All_tail IsHeld x xs a) e
 
 bottom_held : (f : Place) → Some (place 0 0) ≡ Some f → IsHeld f
 bottom_held f e =
@@ -74,17 +74,17 @@ fetched_by : (level at : ℕ) → level ≤ 31 → (o : Option Segment) (op : Op
     → fetched_from o at level ≡ Ok (op, next) → Fetched level op next
 fetched_by level at l None op next small e = cc
 fetched_by level at l (Some s) op next small e =
-    let bytes = syllables-bytes s.words in
-    let within = decoded-within (syllables s.words) at level l bytes (Ok (op, next)) e in
+    let bytes = syllables_bytes s.words in
+    let within = decoded_within (syllables s.words) at level l bytes (Ok (op, next)) e in
     record {
-      fits = ((decoded-ok (syllables s.words) at level l bytes op next).0 e).fits;
-      bound = omega (arith, within.2, length-syllables s.words, small s refl);
+      fits = ((decoded_ok (syllables s.words) at level l bytes op next).0 e).fits;
+      bound = omega (arith, within.2, length_syllables s.words, small s refl);
     }
 
 pub get_all : {X : Type 0} (P : X → Type 0) (xs : List X) (n : ℕ) (x : X) → All P xs → slice_get xs n ≡ Some x → P x
 get_all P [] n x a e = cc
-get_all P (y ∷ ys) zero x a e = let same : y ≡ x = cc in subst P same (All-head P y ys a)
-get_all P (y ∷ ys) (suc n) x a e = get_all P ys n x (All-tail P y ys a) e
+get_all P (y ∷ ys) zero x a e = let same : y ≡ x = cc in subst P same (All_head P y ys a)
+get_all P (y ∷ ys) (suc n) x a e = get_all P ys n x (All_tail P y ys a) e
 
 pub operator_fits : (code : Code) (r : Registers) → r.ll ≤ 31 → (op : Operator) (next : ℕ) → All (λ (s : Segment). length s.words ≤ segment_limit) code.segments
     → operator_at code r ≡ Ok (op, next) → Fetched r.ll op next
@@ -105,7 +105,7 @@ module _ (code : Code) (img : Image) (p : ℕ) (r : Registers) (v : IsValid code
   pub part_is : IsPart (floor r) (private_of img r)
   part_is = record {
     size = omega (arith, length-reverse (drop (floor r) (words_of img.stacks r.stack)), length-drop (floor r) (words_of img.stacks r.stack), size_is, own.above);
-    words = All-reverse IsWord (drop (floor r) (words_of img.stacks r.stack)) (All-drop IsWord (floor r) (words_of img.stacks r.stack) (v.words r.stack));
+    words = All_reverse IsWord (drop (floor r) (words_of img.stacks r.stack)) (All-drop IsWord (floor r) (words_of img.stacks r.stack) (v.words r.stack));
     seen = display_held r.ll r.display own.display;
     mark = own.mark;
     cells = own.cells;
@@ -116,9 +116,6 @@ module _ (code : Code) (img : Image) (p : ℕ) (r : Registers) (v : IsValid code
   -- ---- the image with another private part
 
   module _ (part : Private) (k : IsPart (floor r) part) (keeps : RegistersStay r part.regs) (room : part.regs.s ≤ stack_limit) where
-    under : List Word
-    under = take (floor r) (words_of img.stacks p)
-
     all : List Word
     all = take (floor r) (words_of img.stacks p) ++ reverse part.words
 
@@ -129,7 +126,7 @@ module _ (code : Code) (img : Image) (p : ℕ) (r : Registers) (v : IsValid code
     unfolding all
     all_are =
         All-append IsWord (take (floor r) (words_of img.stacks p)) (reverse part.words) (All-take IsWord (floor r) (words_of img.stacks p) (v.words p))
-        (All-reverse IsWord part.words k.words)
+        (All_reverse IsWord part.words k.words)
 
     all_length : length all ≡ part.regs.s
     unfolding all

@@ -9,7 +9,7 @@ use Rattle.b67_control.specs.declared.Registers.{Registers}
 use Rattle.b67_control.specs.declared.Irw.{Irw}
 use Rattle.b67_control.specs.declared.Sirw.{Sirw}
 use Rattle.b67_control.specs.Control.{as_irw, as_sirw}
-use Rattle.b67_control.proofs.ControlLaws.{Fits-as_irw, Fits-as_sirw}
+use Rattle.b67_control.proofs.ControlLaws.{Fits_as_irw, Fits_as_sirw}
 use Rattle.b67_segment.specs.declared.code.Code.{Code}
 use Rattle.b67_store.specs.Store.{word_at, words_of}
 use Rattle.b67_table.specs.declared.Cell.{Cell}
@@ -51,10 +51,10 @@ module _ (code : Code) (img : Image) (p : ℕ) (r : Registers) (v : IsValid code
   couple_is level index c h e = cell_in_is (display_at r level) index c (seen_held level) h e
 
   sirw_is : (w : Word) (s : Sirw) → as_sirw w ≡ Some s → IsCell (sirw_cell s)
-  sirw_is w s e = let f = Fits-as_sirw w e in record { frame = record { stack = f.0; displacement = f.1.0 }; index = f.1.1.0 }
+  sirw_is w s e = let f = Fits_as_sirw w e in record { frame = record { stack = f.0; displacement = f.1.0 }; index = f.1.1.0 }
 
   either_is : (w : Word) (i : Option Irw) (s : Option Sirw) (c : Cell) → as_irw w ≡ i → as_sirw w ≡ s → irw_or_sirw r i s ≡ Some c → IsCell c
-  either_is w (Some i) s c j k e = couple_is i.level i.index c (Fits-as_irw w j).1.0 e
+  either_is w (Some i) s c j k e = couple_is i.level i.index c (Fits_as_irw w j).1.0 e
   either_is w None (Some s) c j k e = let same : sirw_cell s ≡ c = cc in subst IsCell same (sirw_is w s k)
   either_is w None None c j k e = cc
 
@@ -98,10 +98,6 @@ module _ (code : Code) (img : Image) (p : ℕ) (r : Registers) (v : IsValid code
 
   pub top_found : (n : ℕ) → Found IsWord (look_seen img.stacks (from_top r n))
   top_found n = valid_word (place r.stack (r.s - (n + 1))) (word_at img.stacks (place r.stack (r.s - (n + 1)))) refl
-
-  -- a word, and so many words lie at the floor or above
-  Popped : ℕ → Word → Type 0
-  Popped n w = IsWord w × (floor r + n ≤ r.s)
 
   with_room : (n : ℕ) (e : _) → floor r + n ≤ r.s → Found IsWord e → Found (λ (w : Word). IsWord w × (floor r + n ≤ r.s)) e
   with_room n (Ok w) h i = (i, h)

@@ -13,16 +13,17 @@ use Rattle.b67_control.specs.declared.Mscw.{Mscw}
 use Rattle.b67_control.specs.declared.Rcw.{Rcw}
 use Rattle.b67_control.specs.declared.Descriptor.{Descriptor}
 use Rattle.b67_control.specs.Control.{as_mscw, mscw_word, as_rcw, rcw_word, pcw_word, as_descriptor, descriptor_word}
-use Rattle.b67_control.proofs.ControlLaws.{mscw_word-as_mscw, rcw_word-as_rcw, descriptor_word-as_descriptor}
+use Rattle.b67_control.proofs.ControlLaws.{mscw_word_as_mscw, rcw_word_as_rcw, descriptor_word_as_descriptor}
 use Rattle.b67_segment.specs.declared.code.Code.{Code}
 use Rattle.b67_store.specs.Store.{Row, Rows, stack_at, words_of, words_or, word_at, with_word, row_at, row_words, row_words_or, row_with, with_row_word, closed_at, counted_words, count_limit}
 use Rattle.b67_store.proofs.StoreLaws.{changed_others, counts}
+use Rattle.b67_list.proofs.Lists.{get_set_other}
 use Rattle.b67_table.specs.Look.{read_as}
 use Rattle.b67_table.specs.Chains.{place}
 use Rattle.b67_table.specs.Image.{Image, with_stacks, with_rows}
 use Rattle.b67_table.specs.Beginning.{system_stack}
 use Rattle.b67_table.specs.Valid.{IsFrame, IsProcess, IsValid, AreRows, is_no_mother}
-use Rattle.b67_table.proofs.Stacks.{set_here, set_other}
+use Rattle.b67_table.proofs.Stacks.{set_here}
 use Rattle.b67_table.proofs.FirstValid.{both}
 use Rattle.b67_table.proofs.Finding.{read_is}
 use Rattle.b67_table.proofs.OwnValid.{process_stays}
@@ -31,15 +32,15 @@ use Rattle.b67_table.proofs.OwnValid.{process_stays}
 
 mark_tag : (w : Word) (m : Mscw) → as_mscw w ≡ Some m → w.tag ≡ 3
 unfolding mscw_word
-mark_tag w m e = ap (λ (x : Word). x.tag) (mscw_word-as_mscw w e)
+mark_tag w m e = ap (λ (x : Word). x.tag) (mscw_word_as_mscw w e)
 
 control_tag : (w : Word) (c : Rcw) → as_rcw w ≡ Some c → w.tag ≡ 3
 unfolding rcw_word
-control_tag w c e = ap (λ (x : Word). x.tag) (rcw_word-as_rcw w e)
+control_tag w c e = ap (λ (x : Word). x.tag) (rcw_word_as_rcw w e)
 
 descriptor_tag : (w : Word) (d : Descriptor) → as_descriptor w ≡ Some d → w.tag ≡ 5
 unfolding descriptor_word
-descriptor_tag w d e = ap (λ (x : Word). x.tag) (descriptor_word-as_descriptor w e)
+descriptor_tag w d e = ap (λ (x : Word). x.tag) (descriptor_word_as_descriptor w e)
 
 -- an operand describes no mother
 operand_by : (w : Word) (o : Option Descriptor) → as_descriptor w ≡ o → w.tag ≡ 0 → is_no_mother o ≡ true
@@ -70,22 +71,12 @@ control_there (x ∷ xs) (suc n) w e i t = control_there xs n w (both (nat_le 1 
 
 -- ---- a word in place of an operand
 
-pub get_set_other : {X : Type 0} (xs : List X) (n k : ℕ) (a : X) → k ≢ n → slice_get (set xs n a) k ≡ slice_get xs k
-get_set_other [] n k a h = refl
-get_set_other (x ∷ xs) zero zero a h = absurd (h refl)
-get_set_other (x ∷ xs) zero (suc k) a h = refl
-get_set_other (x ∷ xs) (suc n) zero a h = refl
-get_set_other (x ∷ xs) (suc n) (suc k) a h = get_set_other xs n k a (λ e. h (ap suc e))
-
 open_by : (o : Option (List Word)) (n : ℕ) (w : Word) → slice_get (words_or o) n ≡ Some w → o ≡ Some (words_or o)
 open_by None n w e = cc
 open_by (Some words) n w e = refl
 
 module _ (code : Code) (img : Image) (v : IsValid code img) (x : Place) (old new : Word) (there : word_at img.stacks x ≡ Some old) (tag : old.tag ≡ 0)
     (is : IsWord new) where
-  saved : Image
-  saved = with_stacks img (with_word img.stacks x new)
-
   opened : stack_at img.stacks x.stack ≡ Some (words_of img.stacks x.stack)
   opened = open_by (stack_at img.stacks x.stack) x.at old there
 
@@ -93,7 +84,7 @@ module _ (code : Code) (img : Image) (v : IsValid code img) (x : Place) (old new
   here = ap words_or (set_here img.stacks x.stack (words_of img.stacks x.stack) (set (words_of img.stacks x.stack) x.at new) opened)
 
   elsewhere : (n : ℕ) → n ≢ x.stack → words_of (with_word img.stacks x new) n ≡ words_of img.stacks n
-  elsewhere n h = ap words_or (set_other img.stacks x.stack n (Some (set (words_of img.stacks x.stack) x.at new)) h)
+  elsewhere n h = ap words_or (changed_others img.stacks x.stack n (Some (set (words_of img.stacks x.stack) x.at new)) h)
 
   words_by : (n : ℕ) → Dec (n ≡ x.stack) → All IsWord (words_of (with_word img.stacks x new) n)
   words_by n (yes e) =
@@ -111,7 +102,7 @@ module _ (code : Code) (img : Image) (v : IsValid code img) (x : Place) (old new
   stack_by n (yes e) =
       subst (λ (m : ℕ). is_some (stack_at (with_word img.stacks x new) m) ≡ is_some (stack_at img.stacks m)) (sym e)
       (ap is_some (set_here img.stacks x.stack (words_of img.stacks x.stack) (set (words_of img.stacks x.stack) x.at new) opened) ∙ sym (ap is_some opened))
-  stack_by n (no h) = ap is_some (set_other img.stacks x.stack n (Some (set (words_of img.stacks x.stack) x.at new)) h)
+  stack_by n (no h) = ap is_some (changed_others img.stacks x.stack n (Some (set (words_of img.stacks x.stack) x.at new)) h)
 
   -- a word that is no operand stays
   word_by : (stack at : ℕ) (w : Word) → slice_get (words_of img.stacks stack) at ≡ Some w → (w.tag ≡ 0 → ⊥) → Dec (stack ≡ x.stack) → Dec (at ≡ x.at)
@@ -173,7 +164,7 @@ module _ (code : Code) (img : Image) (v : IsValid code img) (x : Place) (old new
     positions = v.positions;
     some = v.some;
     most = v.most;
-    system = set_other img.stacks x.stack 0 (Some (set (words_of img.stacks x.stack) x.at new)) (λ e. not_system (sym e)) ∙ v.system;
+    system = changed_others img.stacks x.stack 0 (Some (set (words_of img.stacks x.stack) x.at new)) (λ e. not_system (sym e)) ∙ v.system;
     stacks = λ q one. stack_by q (ℕ_discrete q x.stack) ∙ v.stacks q one;
     processes = λ q r l i. process_kept q r (v.processes q r l i);
     earlier = v.earlier;

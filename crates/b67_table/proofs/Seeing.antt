@@ -1,15 +1,9 @@
 -- A look at stacks, as a test of an image: what the calls on stacks only find, a program of the table is told.
-use Rattle.std.proofs.Common.{◌≡◌, refl, Result, Ok, Err}
-use Rattle.b67_table.specs.declared.InterruptKind.{InterruptKind}
+use Rattle.std.proofs.Common.{◌≡◌, refl}
 use Rattle.b67_table.specs.Effect.{Effect, gives, faults, interrupts}
 use Rattle.b67_table.specs.Image.{Image}
 use Rattle.b67_table.specs.Questions.{told}
 use Rattle.b67_table.specs.Program.{Test, answer, interrupt, fault, ask, asked, ◌>>=◌}
-
--- the rest of a test, after what a look found
-abbrev pub after_look : {A B : Type 0} → Image → Result A InterruptKind → (A → Test B) → Effect B
-after_look img (Ok a) next = asked img (next a)
-after_look img (Err kind) next = interrupts kind
 
 -- the rest of a test, after its first part
 abbrev pub after_test : {A B : Type 0} → Image → Effect A → (A → Test B) → Effect B

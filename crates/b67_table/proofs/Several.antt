@@ -12,7 +12,8 @@ use Rattle.b67_deeds.specs.Events.{joined}
 use Rattle.b67_events.specs.Events.{Event, same_place, event_at, state_of, is_waiting, waiters_at, procurers_at, with_state, event_is_among, joined_all, list_of, is_listed, with_list}
 use Rattle.b67_events.specs.Laws.{StaysInPlace}
 use Rattle.b67_events.specs.Once.{EachOnce, times_in, waiting_times, procurers_of}
-use Rattle.b67_events.proofs.Listed.{same_place-true}
+use Rattle.b67_events.proofs.Listed.{same_place_true}
+use Rattle.b67_events.proofs.OnceLaws.{times_in_none}
 use Rattle.b67_table.specs.declared.ProcessState.{ProcessState}
 use Rattle.b67_table.specs.declared.ProcessState.TheVariants.{WaitsAny}
 use Rattle.b67_table.specs.Image.{Image, woken_number, is_able, is_live}
@@ -36,12 +37,12 @@ any_one q p (x ∷ xs) e = elim (or_cases (q == x) (list_any (λ y. q == y) (xs 
   | inr j ↦ elim (any_one q p xs j) [ inl k ↦ inl (or_right (q == x) (list_any (λ y. q == y) xs) k) | inr k ↦ inr k ]
 ]
 
-event_place : (to : Place) (es : List Event) (e : Event) → event_at to es ≡ Some e → e.place ≡ to
+pub event_place : (to : Place) (es : List Event) (e : Event) → event_at to es ≡ Some e → e.place ≡ to
 event_place to [] e h = cc
 event_place to (x ∷ es) e h = by_test (event_place to es e) (same_place x.place to) refl h
   where
     by_test : (event_at to es ≡ Some e → e.place ≡ to) → (b : Bool) → same_place x.place to ≡ b → cond b (Some x) (event_at to es) ≡ Some e → e.place ≡ to
-    by_test later true g i = let same : x ≡ e = cc in sym (ap (λ (y : Event). y.place) same) ∙ same_place-true x.place to g
+    by_test later true g i = let same : x ≡ e = cc in sym (ap (λ (y : Event). y.place) same) ∙ same_place_true x.place to g
     by_test later false g i = later i
 
 abbrev one_if : Bool → ℕ
@@ -50,12 +51,6 @@ one_if b = cond b 1 0
 times_push : (q p : ℕ) (xs : List ℕ) → times_in q (xs ++ p ∷ []) ≡ times_in q xs + one_if (eqb q p)
 times_push q p [] = omega arith
 times_push q p (x ∷ xs) = let rest = times_push q p xs in omega arith
-
-times_none : (p : ℕ) (xs : List ℕ) → list_any (eqb p) xs ≡ false → times_in p xs ≡ 0
-times_none p [] h = refl
-times_none p (x ∷ xs) h =
-    let parts = or_parts (eqb p x) (list_any (eqb p) xs) h in
-    let head : one_if (eqb p x) ≡ 0 = cond-false (eqb p x) 1 0 parts.0 in omega (arith, times_none p xs parts.1)
 
 times_both : (p : ℕ) (xs ys : List ℕ) → times_in p xs ≤ times_in p (xs ++ ys)
 times_both p [] ys = omega arith
@@ -117,7 +112,7 @@ module _ (places : List Place) (p : ℕ) where
       by_test : (b : Bool) → list_any (eqb p) (e.state.waiters ++ e.state.procurers) ≡ false → StandsOnce q (cond b (with_state (joined p) e) e)
       by_test true none = elim (cases_Bool (eqb q p)) [
         | inl k ↦
-            let no = times_none p (e.state.waiters ++ e.state.procurers) none in
+            let no = times_in_none p (e.state.waiters ++ e.state.procurers) none in
             let less = times_both p e.state.waiters e.state.procurers in
             let same : times_in q e.state.waiters ≡ times_in p e.state.waiters = ap (λ n. times_in n e.state.waiters) (eqb-true q p k) in
             let is : one_if (eqb q p) ≡ 1 = cond-true (eqb q p) 1 0 k in

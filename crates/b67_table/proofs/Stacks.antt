@@ -2,6 +2,7 @@
 use Rattle.std.proofs.Common.{◌≡◌, ◌≢◌, refl, sym, ap, ℕ, zero, suc, ◌+◌, ◌<◌, ◌≤◌, List, [], ◌∷◌, ◌++◌, length, take, drop, set, Option, Some, arith}
 use Rattle.std.specs.Prelude.{slice_get}
 use Rattle.b67_list.specs.Numbered.{numbered, set_numbered}
+use Rattle.b67_list.proofs.Lists.{get_set_other}
 use Rattle.b67_store.specs.Store.{at_number, opened_at}
 
 -- ---- lists by number
@@ -11,34 +12,12 @@ set_here [] n x y e = cc
 set_here (z ∷ zs) zero x y e = refl
 set_here (z ∷ zs) (suc n) x y e = set_here zs n x y e
 
-pub set_other : {X : Type 0} (xs : List (Option X)) (n k : ℕ) (y : Option X) → k ≢ n → at_number (set xs n y) k ≡ at_number xs k
-set_other [] n k y h = refl
-set_other (z ∷ zs) zero zero y h = absurd (h refl)
-set_other (z ∷ zs) zero (suc k) y h = refl
-set_other (z ∷ zs) (suc n) zero y h = refl
-set_other (z ∷ zs) (suc n) (suc k) y h = set_other zs n k y (λ e. h (ap suc e))
-
-pub opened_other : {X : Type 0} (xs : List (Option X)) (n k : ℕ) (x : X) → k ≢ n → at_number (opened_at xs n x) k ≡ at_number xs k
-opened_other [] zero zero x h = absurd (h refl)
-opened_other [] zero (suc k) x h = refl
-opened_other [] (suc n) zero x h = refl
-opened_other [] (suc n) (suc k) x h = opened_other [] n k x (λ e. h (ap suc e))
-opened_other (y ∷ ys) zero zero x h = absurd (h refl)
-opened_other (y ∷ ys) zero (suc k) x h = refl
-opened_other (y ∷ ys) (suc n) zero x h = refl
-opened_other (y ∷ ys) (suc n) (suc k) x h = opened_other ys n k x (λ e. h (ap suc e))
-
 pub set_set_other : {X : Type 0} (xs : List X) (n k : ℕ) (a b : X) → n ≢ k → set (set xs n a) k b ≡ set (set xs k b) n a
 set_set_other [] n k a b h = refl
 set_set_other (x ∷ xs) zero zero a b h = absurd (h refl)
 set_set_other (x ∷ xs) zero (suc k) a b h = refl
 set_set_other (x ∷ xs) (suc n) zero a b h = refl
 set_set_other (x ∷ xs) (suc n) (suc k) a b h = ap (λ z. x ∷ z) (set_set_other xs n k a b (λ e. h (ap suc e)))
-
-pub set_set_here : {X : Type 0} (xs : List X) (n : ℕ) (a b : X) → set (set xs n a) n b ≡ set xs n b
-set_set_here [] n a b = refl
-set_set_here (x ∷ xs) zero a b = refl
-set_set_here (x ∷ xs) (suc n) a b = ap (λ z. x ∷ z) (set_set_here xs n a b)
 
 pub open_set_other : {X : Type 0} (xs : List (Option X)) (n k : ℕ) (w v : X) (a : Option X) → k ≢ n → at_number xs n ≡ Some w
     → opened_at (set xs n a) k v ≡ set (opened_at xs k v) n a
@@ -65,19 +44,12 @@ pub numbered_append : {X : Type 0} (xs ys : List X) (q : ℕ) (a : X) → q ≤ 
 numbered_append xs ys zero a h = refl
 numbered_append xs ys (suc q) a h = set_append xs ys q a (omega (arith, h))
 
-get_set_other : {X : Type 0} (xs : List X) (n k : ℕ) (a : X) → k ≢ n → slice_get (set xs n a) k ≡ slice_get xs k
-get_set_other [] n k a h = refl
-get_set_other (x ∷ xs) zero zero a h = absurd (h refl)
-get_set_other (x ∷ xs) zero (suc k) a h = refl
-get_set_other (x ∷ xs) (suc n) zero a h = refl
-get_set_other (x ∷ xs) (suc n) (suc k) a h = get_set_other xs n k a (λ e. h (ap suc e))
-
 pub get_numbered_other : {X : Type 0} (xs : List X) (p q : ℕ) (a : X) → q ≢ p → numbered (set_numbered xs p a) q ≡ numbered xs q
 get_numbered_other xs p zero a h = refl
 get_numbered_other xs zero (suc q) a h = refl
 get_numbered_other xs (suc p) (suc q) a h = get_set_other xs p q a (λ e. h (ap suc e))
 
-get_append : {X : Type 0} (xs ys : List X) (n : ℕ) → n < length xs → slice_get (xs ++ ys) n ≡ slice_get xs n
+pub get_append : {X : Type 0} (xs ys : List X) (n : ℕ) → n < length xs → slice_get (xs ++ ys) n ≡ slice_get xs n
 get_append [] ys n h = absurd (omega (arith, h))
 get_append (x ∷ xs) ys zero h = refl
 get_append (x ∷ xs) ys (suc n) h = get_append xs ys n (omega (arith, h))

@@ -6,6 +6,7 @@ use Rattle.std.proofs.Math.Decide.{ℕ_discrete}
 use Rattle.std.proofs.lemmas.Bool.{cases_Bool, cond-true, or_cases, eqb-true, eq-eqb}
 use Rattle.std.proofs.lemmas.List.Elements.{All-head, All-tail}
 use Rattle.b67_list.specs.Numbered.{numbered}
+use Rattle.b67_list.proofs.Truths.{not_both}
 use Rattle.b67_word.specs.declared.Place.{Place}
 use Rattle.b67_segment.specs.declared.code.Code.{Code}
 use Rattle.b67_deeds.specs.declared.EventAct.TheVariants as act
@@ -17,9 +18,9 @@ use Rattle.b67_deeds.proofs.Lists.{Lists, deed_lists}
 use Rattle.b67_events.specs.Events.{Event, same_place, event_at, state_of, state_at, waiters_at, procurers_at, with_state, changed_by, deed_at, after_deed, done_at, list_of, is_listed, unlisted}
 use Rattle.b67_events.specs.Laws.{EventsAreApart}
 use Rattle.b67_events.specs.Once.{MayWait, times_in, waiting_times, procurers_of, waiters_of}
-use Rattle.b67_events.proofs.Listed.{same_place-true, same_place-self}
+use Rattle.b67_events.proofs.Listed.{same_place_true, same_place_self}
 use Rattle.b67_events.proofs.EventLaws.{one_event, stay_apart}
-use Rattle.b67_events.proofs.OnceLaws.{waits_once, times_in-some}
+use Rattle.b67_events.proofs.OnceLaws.{waits_once, times_in_some}
 use Rattle.b67_table.specs.declared.ProcessState.{ProcessState}
 use Rattle.b67_table.specs.declared.ProcessState.TheVariants.{Able, WaitsFor, WaitsAny, Procures, Ended}
 use Rattle.b67_table.specs.Image.{Image, is_able, is_live}
@@ -29,7 +30,7 @@ use Rattle.b67_table.specs.Writes as writes
 use Rattle.b67_table.specs.Valid.{IsValid, AwaitsAt, AreEvents, waits}
 use Rattle.b67_table.proofs.Stacks.{get_numbered_other}
 use Rattle.b67_table.proofs.Lists.{numbered_set}
-use Rattle.b67_table.proofs.EventKept.{Among, or_left, or_right, not_both, length_states, length_again, same_state, live_of, within_of, again_live, able_waits, awaits_waits, nowhere, waiting_valid}
+use Rattle.b67_table.proofs.EventKept.{Among, or_left, or_right, length_states, length_again, same_state, live_of, within_of, again_live, able_waits, awaits_waits, nowhere, waiting_valid}
 use Rattle.b67_table.proofs.Withdrawing.{withdrawn_waiters, withdrawn_procurers, withdrawn_apart, unlisted_here, unlisted_other, told_length, told_small}
 
 -- ---- who is in a list
@@ -53,7 +54,7 @@ once_of : (xs : List ℕ) → ((q : ℕ) → times_in q xs ≤ 1) → AreOnce xs
 once_of [] k = tt
 once_of (x ∷ xs) k = (
   λ m.
-      let more = times_in-some x xs (among_of x xs m) in
+      let more = times_in_some x xs (among_of x xs m) in
       let is : one_if (eqb x x) ≡ 1 = cond-true (eqb x x) 1 0 (eq-eqb x x refl) in
       absurd (omega (arith, k x)),
   once_of xs (λ q. omega (arith, k q)),
@@ -259,7 +260,7 @@ module _ (es : List Event) (lists : List (List Place)) (xs : List ProcessState) 
         let w = withdrawn_waiters q to d.withdraws (changed_by d.change at es) i in
         elim (cases_Bool (same_place to at)) [
           | inl h ↦
-              let same = same_place-true to at h in
+              let same = same_place_true to at h in
               let there = list_after waiters_of refl q at es d.change (ap (λ x. list_any (λ y. q == y) (waiters_at x (changed_by d.change at es))) (sym same) ∙ w.0) in
               subst (λ (x : Place). AwaitsAt (numbered after q) (list_of q left) x) (sym same)
               (elim (are.waiters q (listed_of q _ there)) [
@@ -268,7 +269,7 @@ module _ (es : List Event) (lists : List (List Place)) (xs : List ProcessState) 
                     subst (λ (o : Option ProcessState). AwaitsAt o (list_of q left) at) (sym (ap (numbered after) (sym k.1) ∙ waits_here k.0)) refl
               ])
           | inr h ↦
-              let apart : to ≢ at = λ e. not_both (same_place to at) (same_place-self to at e) h in
+              let apart : to ≢ at = λ e. not_both (same_place to at) (same_place_self to at e) h in
               let is = v.waiters q to (list_stays waiters_of refl q at es to apart d.change w.0) in
               awaits_on q to is w.1 (λ j. elim (freed_by q j) [
                 | inl k ↦ w.1 k
@@ -282,7 +283,7 @@ module _ (es : List Event) (lists : List (List Place)) (xs : List ProcessState) 
         let i = ap (list_any (λ y. q == y)) (sym (withdrawn_procurers to d.withdraws (changed_by d.change at es))) ∙ j in
         elim (cases_Bool (same_place to at)) [
           | inl h ↦
-              let same = same_place-true to at h in
+              let same = same_place_true to at h in
               let there = list_after procurers_of refl q at es d.change (ap (λ x. list_any (λ y. q == y) (procurers_at x (changed_by d.change at es))) (sym same) ∙ i) in
               subst (λ (x : Place). numbered after q ≡ Some (Procures x)) (sym same)
               (elim (are.procurers q (listed_of q _ there)) [
@@ -292,7 +293,7 @@ module _ (es : List Event) (lists : List (List Place)) (xs : List ProcessState) 
                 | inr k ↦ ap (numbered after) (sym k.1) ∙ queues_here k.0
               ])
           | inr h ↦
-              let apart : to ≢ at = λ e. not_both (same_place to at) (same_place-self to at e) h in
+              let apart : to ≢ at = λ e. not_both (same_place to at) (same_place_self to at e) h in
               let is = v.procurers q to (list_stays procurers_of refl q at es to apart d.change i) in
               waits_on q (ap waits is) (λ m. elim (freed_by q m) [
                 | inl k ↦

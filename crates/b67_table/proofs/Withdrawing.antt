@@ -8,6 +8,7 @@ use Rattle.std.proofs.lemmas.Bool.{or_cases, eqb-true, eq-eqb}
 use Rattle.std.proofs.lemmas.List.{length-set}
 use Rattle.std.proofs.lemmas.List.Elements.{All-set}
 use Rattle.b67_list.specs.Numbered.{numbered, set_numbered}
+use Rattle.b67_list.proofs.Truths.{not_both}
 use Rattle.b67_word.specs.declared.Place.{Place}
 use Rattle.b67_deeds.specs.Events.{left_by}
 use Rattle.b67_events.specs.Events.{Event, same_place, event_at, is_open, state_of, waiters_at, procurers_at, with_state, withdrawn, list_of, unlisted, first_that, position_of}
@@ -15,7 +16,7 @@ use Rattle.b67_events.specs.Laws.{StaysInPlace, EventsAreApart}
 use Rattle.b67_table.specs.Limits.{most_events}
 use Rattle.b67_table.specs.Writes.{with_number, told_positions}
 use Rattle.b67_table.proofs.Stacks.{get_numbered_other}
-use Rattle.b67_table.proofs.EventKept.{Among, or_left, or_right, not_both}
+use Rattle.b67_table.proofs.EventKept.{Among, or_left, or_right}
 
 -- ---- all events
 

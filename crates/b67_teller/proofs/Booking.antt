@@ -1,5 +1,5 @@
 -- What is told stays told, and each outcome once.
-use Rattle.std.proofs.Common.{◌≡◌, refl, sym, ap, subst, ◌∙◌, ℕ, zero, suc, ◌+◌, ◌<◌, ◌≤◌, false, true≢false, List, [], ◌∷◌, ◌++◌, length, reverse, append_assoc, append-nil, Contains, Some, arith, inl, inr}
+use Rattle.std.proofs.Common.{◌≡◌, refl, sym, ap, subst, ◌∙◌, ℕ, zero, suc, ◌+◌, ◌<◌, ◌≤◌, false, List, [], ◌∷◌, ◌++◌, length, reverse, append_assoc, append-nil, Contains, Some, arith, inl, inr}
 use Rattle.std.specs.Prelude.{◌⊎◌, slice_get}
 use Rattle.std.specs.List.{All}
 use Rattle.std.proofs.lemmas.Bool.{cases_lt}
@@ -19,14 +19,12 @@ use Rattle.b67_outcomes.specs.declared.found.State.{State}
 use Rattle.b67_outcomes.specs.declared.found.Limit.{Limit}
 use Rattle.b67_outcomes.specs.declared.found.Found.{Found}
 use Rattle.b67_outcomes.specs.Finding.{History, IsState}
+use Rattle.b67_outcomes.proofs.Trees.{last_or_old}
 use Rattle.b67_teller.specs.declared.book.Book.{Book}
 use Rattle.b67_teller.specs.Following.{IsLong}
-use Rattle.b67_teller.specs.Books.{IsScheduleOf, IsConfirmed, IsLeftOut, IsBook, HasCause, HasOther, BookGrows, IsAdded, IsHistoryWith, IsStateTold, IsLimitTold, AreLimitsTold}
+use Rattle.b67_teller.specs.Books.{IsScheduleOf, IsConfirmed, IsLeftOut, IsBook, HasOther, BookGrows, IsAdded, IsHistoryWith, IsStateTold, IsLimitTold, AreLimitsTold}
 
 -- ---- what was told
-
-pub grows_none : (b : Book) → BookGrows b b
-grows_none b = record { more = []; told = sym (append-nil b.told.items); cut = λ e. e }
 
 pub grows_more : (a b c : Book) → BookGrows a b → BookGrows b c → BookGrows a c
 grows_more a b c g h =
@@ -75,20 +73,7 @@ states_next code found told at s there before here k m below is = by (cases_lt k
         let same : at ≡ k = omega (arith, more, below) in
         subst (λ (z : State). IsStateTold code found told z.number) (same_Some s m (sym there ∙ ap (λ (i : ℕ). slice_get found.states.items i) same ∙ is)) here
 
-pub none_told : (code : Code) (found : Found) (told : List Told) → AreLimitsTold code found told 0
-none_told code found told k l below = absurd (omega (arith, below))
-
 -- ---- lists
-
-push_cases : {X : Type 0} (xs : List X) (x y : X) (k : ℕ) → slice_get (xs ++ x ∷ []) k ≡ Some y → (slice_get xs k ≡ Some y) ⊎ ((k ≡ length xs) × (x ≡ y))
-push_cases [] x y zero e = inr (refl, same_Some x y e)
-push_cases [] x y (suc k) e = absurd (none-some y e)
-push_cases (w ∷ xs) x y zero e = inl e
-push_cases (w ∷ xs) x y (suc k) e = by (push_cases xs x y k e)
-  where
-    by : (slice_get xs k ≡ Some y) ⊎ ((k ≡ length xs) × (x ≡ y)) → (slice_get (w ∷ xs) (suc k) ≡ Some y) ⊎ ((suc k ≡ length (w ∷ xs)) × (x ≡ y))
-    by (inl f) = inl f
-    by (inr f) = let same = f.0 in inr (omega (arith, same), f.1)
 
 contained : (told : List Told) (k : ℕ) (y : Told) → slice_get told k ≡ Some y → OutcomeIsTold told y.outcome
 contained [] k y e = absurd (none-some y e)
@@ -98,18 +83,6 @@ contained (z ∷ told) (suc k) y e = let c = contained told k y e in (suc c.0, l
 -- ---- one more outcome
 
 module _ (E : Code → Given → Outcome → Type 0) (code : Code) where
-  pub book_begun : (b : Book) → b.told.items ≡ [] → b.text.items ≡ [] → IsBook E code b
-  book_begun b told text =
-      record {
-        confirmed = subst (λ (z : List Told). All (IsConfirmed E code) z) (sym told) (λ k d below. absurd (omega (arith, below)));
-        different = λ j k x y less at e. absurd (none-some x (sym (ap (λ (z : List Told). slice_get z j) told) ∙ at));
-        text = text ∙ sym (ap told_texts told);
-        short = let none = ap (λ (z : List ℕ). length z) text in omega (arith, none);
-      }
-
-  pub none_left : (found : Found) (b : Book) → b.cut ≡ false → HasCause E code found b
-  none_left found b cut = λ e. absurd (true≢false (sym e ∙ cut))
-
   -- where one is left out, the others are told as they were
   pub book_same : (old new : Book) → IsBook E code old → new.told.items ≡ old.told.items → new.text.items ≡ old.text.items → IsBook E code new
   book_same old new b told text =
@@ -139,8 +112,8 @@ module _ (E : Code → Given → Outcome → Type 0) (code : Code) where
       record {
         confirmed = subst (λ (z : List Told). All (IsConfirmed E code) z) (sym told) (All-push (IsConfirmed E code) old.told.items x b.confirmed confirmed);
         different = λ j k y z less at e.
-            differ j k y z less (push_cases old.told.items x y j (sym (ap (λ (w : List Told). slice_get w j) told) ∙ at))
-            (push_cases old.told.items x z k (sym (ap (λ (w : List Told). slice_get w k) told) ∙ e));
+            differ j k y z less (last_or_old old.told.items x y j (sym (ap (λ (w : List Told). slice_get w j) told) ∙ at))
+            (last_or_old old.told.items x z k (sym (ap (λ (w : List Told). slice_get w k) told) ∙ e));
         text =
             text ∙ ap (λ (z : List ℕ). z ++ told_text x) b.text ∙ ap (λ (z : List ℕ). told_texts old.told.items ++ z) (sym (append-nil (told_text x)))
             ∙ sym (flat_map-append (λ (y : Told). told_text y) old.told.items (x ∷ [])) ∙ sym (ap told_texts told);

@@ -4,6 +4,7 @@ use Rattle.std.specs.Prelude.{◌⊎◌}
 use Rattle.std.proofs.lemmas.List.{reverse-append, reverse-reverse}
 use Rattle.std.proofs.lemmas.Option.{same_Some, none-some}
 use Rattle.b67_list.specs.Numbered.{numbered}
+use Rattle.b67_list.proofs.Lists.{same_head}
 use Rattle.b67_segment.specs.declared.code.Code.{Code}
 use Rattle.b67_table.specs.Image.{Image}
 use Rattle.b67_table.specs.Ending.{ImageEnd, image_end, may_act}
@@ -15,6 +16,7 @@ use Rattle.b67_report.specs.declared.EndWords.TheVariants as ends
 use Rattle.b67_told.specs.declared.Outcome.{Outcome}
 use Rattle.b67_outcomes.specs.Entering.{Stops, HistoryLeadsTo}
 use Rattle.b67_outcomes.proofs.Determined.{led_one, no_entry, stops_one}
+use Rattle.b67_outcomes.proofs.Apart.{same_tail}
 use Rattle.b67_teller.specs.Following.{IsOutcomeEnd, image_words, ended_outcome, stopped_outcome, IsLong, NextStops, NextIsIllegal, EndsBy, Followed, FollowsOnly}
 
 -- ---- histories
@@ -42,27 +44,13 @@ back_next : (history done : List ℕ) (p : ℕ) (left : List ℕ) → reverse hi
 back_next history done p left e =
     back history done (p ∷ left) e ∙ ap (λ (z : List ℕ). z ++ reverse done) (reverse-append (p ∷ []) left) ∙ append_assoc (reverse left) (p ∷ []) (reverse done)
 
-same_head : (p q : ℕ) (g h : List ℕ) → p ∷ g ≡ q ∷ h → p ≡ q
-same_head p q g h e = ap (λ (z : List ℕ). first_or z) e
-  where
-    first_or : List ℕ → ℕ
-    first_or [] = p
-    first_or (x ∷ xs) = x
-
-same_tail : (p q : ℕ) (g h : List ℕ) → p ∷ g ≡ q ∷ h → g ≡ h
-same_tail p q g h e = ap (λ (z : List ℕ). rest_of z) e
-  where
-    rest_of : List ℕ → List ℕ
-    rest_of [] = []
-    rest_of (x ∷ xs) = xs
-
 -- the last entry is the one found, or that is among those before it
 last_or : (p : ℕ) (history xs : List ℕ) (q : ℕ) (h : List ℕ) → p ∷ history ≡ xs ++ q ∷ h
     → ((p ≡ q) × (history ≡ h)) ⊎ ((ys : List ℕ) × (history ≡ ys ++ q ∷ h))
 last_or p history [] q h e = inl (same_head p q history h e, same_tail p q history h e)
 last_or p history (x ∷ xs) q h e = inr (xs, same_tail p x history (xs ++ q ∷ h) e)
 
-outcome_is : (o : Outcome) (output : List (List ℕ)) (end : EndWords) → o.output ≡ output → o.end ≡ end → o ≡ record { output = output; end = end }
+pub outcome_is : (o : Outcome) (output : List (List ℕ)) (end : EndWords) → o.output ≡ output → o.end ≡ end → o ≡ record { output = output; end = end }
 outcome_is o output end e f = ap₂ (λ (x : List (List ℕ)) (y : EndWords). record { output = x; end = y }) e f
 
 -- ---- to an end

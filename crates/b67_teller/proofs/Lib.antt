@@ -1,4 +1,4 @@
-mod Leading
+pub mod Leading
 mod Booking
 mod Replays
 mod States

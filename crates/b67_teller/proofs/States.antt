@@ -1,6 +1,6 @@
 -- From one history of a state to all that is told of it.
-use Rattle.std.proofs.Common.{◌≡◌, refl, sym, ap, ap₂, subst, ◌∙◌, ℕ, suc, ◌-◌, ◌≤◌, true, List, ◌∷◌, length, reverse, Option, Some, None, Result, Ok, Err, arith, inl, inr}
-use Rattle.std.specs.Prelude.{IfOk, slice_get}
+use Rattle.std.proofs.Common.{◌≡◌, refl, sym, ap, ap₂, subst, ◌∙◌, ℕ, suc, ◌-◌, ◌≤◌, true, List, ◌∷◌, length, reverse, Option, Some, None, arith, inl, inr}
+use Rattle.std.specs.Prelude.{slice_get}
 use Rattle.std.proofs.lemmas.Option.{same_Some, none-some, slice_get_within}
 use Rattle.b67_list.specs.Numbered.{numbered}
 use Rattle.b67_segment.specs.declared.code.Code.{Code}
@@ -25,10 +25,6 @@ use Rattle.b67_outcomes.proofs.Histories.{history_one, history_short, history_wi
 use Rattle.b67_outcomes.proofs.Passing.{not_ended}
 use Rattle.b67_teller.specs.Following.{words_of_image, image_words, stopped_outcome, ended_outcome, HasOutcome}
 use Rattle.b67_teller.specs.Books.{IsStateTold, IsLimitTold, IsHistoryWith, IsSettled, IsOpen, HasOther}
-
-pub ok_map : {A E : Type 0} (r : Result A E) (P Q : A → Type 0) → ((a : A) → P a → Q a) → IfOk r P → IfOk r Q
-ok_map (Ok a) P Q f x = f a x
-ok_map (Err e) P Q f x = x
 
 -- what is told of a slice is told
 pub told_here : {slice told : List Told} {shown output : List (List ℕ)} {end : EndWords} → slice ≡ told → shown ≡ output

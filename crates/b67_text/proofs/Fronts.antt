@@ -5,17 +5,12 @@ use Rattle.std.specs.Fmt.{decimal}
 use Rattle.std.proofs.lemmas.Option.{slice_get_within}
 use Rattle.std.proofs.lemmas.List.{append-nil, length-append, length-take-le, take_at, take-append-drop, drop_more, append_cancel_left}
 use Rattle.std.proofs.lemmas.Bool.{cases_lt}
+use Rattle.b67_list.proofs.Lists.{drop_next, take_append_ge}
 use Rattle.b67_text.specs.declared.number.Numbers.{Numbers}
 use Rattle.b67_text.specs.Texts.{Begins, HasNone, StopsAt, PartStands, AreApart}
 use Rattle.b67_text.specs.Numerals.{IsDigit, NumberIsIn, IsField, IsSmallNumber, spelled, AreDigits}
 use Rattle.b67_text.proofs.Decimals.{Longer, Shorter, compare_fronts, digits, AtEnd, GoesOn, ahead}
 use Rattle.b67_text.proofs.Beginnings.{wide}
-
--- the byte at a place is the first of the rest
-pub at_byte : (bytes : List ℕ) (at byte : ℕ) → slice_get bytes at ≡ Some byte → drop at bytes ≡ byte ∷ drop (suc at) bytes
-at_byte [] at byte e = cc
-at_byte (x ∷ bytes) zero byte e = let same : x ≡ byte = cc in ap (λ b. b ∷ bytes) same
-at_byte (x ∷ bytes) (suc at) byte e = at_byte bytes at byte e
 
 pub byte_at : (bytes : List ℕ) (at byte : ℕ) (rest : List ℕ) → drop at bytes ≡ byte ∷ rest → slice_get bytes at ≡ Some byte
 byte_at [] zero byte rest e = cc
@@ -31,12 +26,8 @@ stands_more part bytes at next byte st here =
     record {
       within = omega arith;
       next_is = omega (arith, st.next_is, length-append part (byte ∷ []));
-      part_is = st.part_is ∙ ap (λ r. part ++ r) (at_byte bytes next byte here ∙ ap (λ n. byte ∷ drop n bytes) same) ∙ sym (append_assoc part (byte ∷ []) (drop (next + 1) bytes));
+      part_is = st.part_is ∙ ap (λ r. part ++ r) (drop_next bytes next byte here ∙ ap (λ n. byte ∷ drop n bytes) same) ∙ sym (append_assoc part (byte ∷ []) (drop (next + 1) bytes));
     }
-
--- nothing stands at its own beginning
-pub stands_none : (bytes : List ℕ) (at : ℕ) → at ≤ length bytes → PartStands [] bytes at at
-stands_none bytes at inside = record { within = inside; next_is = omega arith; part_is = refl }
 
 -- what begins one of these, is none itself, and begins none with what is after it
 pub record Ends (Is : List ℕ → Type 0) (front rest : List ℕ) : Type 0 where
@@ -49,13 +40,6 @@ longest_on Is front rest zero ends some inside b = omega arith
 longest_on Is front [] (suc j) ends some inside b = omega arith
 longest_on Is front (byte ∷ more) (suc j) ends some inside b =
     ends.dead byte more refl (take j more ++ b.0, subst Is (append_assoc front (byte ∷ take j more) b.0 ∙ sym (append_assoc front (byte ∷ []) (take j more ++ b.0))) b.1)
-
-pub take_past : (front rest : List ℕ) (k : ℕ) → length front ≤ k → take k (front ++ rest) ≡ front ++ take (k - length front) rest
-take_past [] rest k p = ap (λ n. take n rest) (omega arith)
-take_past (x ∷ front) rest zero p = absurd (omega arith)
-take_past (x ∷ front) rest (suc k) p =
-    let same : suc k - length (x ∷ front) ≡ k - length front = omega arith in
-    ap (λ t. x ∷ t) (take_past front rest k (omega arith) ∙ ap (λ n. front ++ take n rest) (sym same))
 
 no_longer : (Is : List ℕ → Type 0) (front rest part after more : List ℕ) → Ends Is front rest → Is part → part ≡ front ++ more → rest ≡ more ++ after → ⊥
 no_longer Is front rest part after [] ends is e r = ends.not_yet (subst Is (e ∙ append-nil front) is)
@@ -79,7 +63,7 @@ ends_none Is front rest apart ends = record {
     begins = subst (Begins Is) (sym (take_at front rest (length front) refl)) ends.begins;
     longest = λ k inside b. ⊎_elim (λ (past : length front < k).
         let long : length (front ++ rest) ≡ length front + length rest = length-append front rest in
-        absurd (longest_on Is front rest (k - length front) ends (omega arith) (omega arith) (subst (Begins Is) (take_past front rest k (omega arith)) b)))
+        absurd (longest_on Is front rest (k - length front) ends (omega arith) (omega arith) (subst (Begins Is) (take_append_ge front rest k (omega arith)) b)))
         (λ (fine : k ≤ length front). fine) (cases_lt (length front) k);
   };
 }

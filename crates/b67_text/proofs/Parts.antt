@@ -3,9 +3,9 @@ use Rattle.std.proofs.Common.{◌≡◌, ℕ, ◌+◌, ◌-◌, ◌<◌, ◌≤�
 use Rattle.std.specs.Prelude.{◌⊎◌}
 use Rattle.std.proofs.lemmas.List.{append-nil, length-append, length-take-le, take_at, take-append-drop, append_cancel_left}
 use Rattle.std.proofs.lemmas.Bool.{cases_lt}
+use Rattle.b67_list.proofs.Lists.{take_append_ge}
 use Rattle.b67_text.specs.Texts.{Begins, IsLongest, HasNone, IsRefused, StopsAt, PartStands, AreApart}
 use Rattle.b67_text.proofs.Decimals.{Longer, Shorter, compare_fronts}
-use Rattle.b67_text.proofs.Fronts.{take_past}
 
 -- a text begins with a part of this kind
 pub record Parted (Part : List ℕ → Type 0) (text : List ℕ) : Type 0 where
@@ -78,12 +78,12 @@ second_none Is Rest front items count leads stop = record {
         let whole = stop.reach.begins in
         let same : front ++ (take count items ++ whole.0) ≡ take (length front + count) (front ++ items) ++ whole.0 =
         sym (append_assoc front (take count items) whole.0)
-        ∙ ap (λ t. t ++ whole.0) (sym (take_past front items (length front + count) (omega arith) ∙ ap (λ n. front ++ take n items) (omega arith))) in
+        ∙ ap (λ t. t ++ whole.0) (sym (take_append_ge front items (length front + count) (omega arith) ∙ ap (λ n. front ++ take n items) (omega arith))) in
         (whole.0, subst Is same (leads.joins (take count items ++ whole.0) whole.1));
     longest = λ k inside b.
         ⊎_elim (λ (past : length front < k).
         let long : length (front ++ items) ≡ length front + length items = length-append front items in
-        let below : k - length front ≤ count = second_longest Is Rest front items count leads stop (k - length front) (omega arith) (subst (Begins Is) (take_past front items k (omega arith)) b) in
+        let below : k - length front ≤ count = second_longest Is Rest front items count leads stop (k - length front) (omega arith) (subst (Begins Is) (take_append_ge front items k (omega arith)) b) in
         omega arith)
         (λ (fine : k ≤ length front). omega arith) (cases_lt (length front) k);
   };
@@ -127,7 +127,7 @@ refused_behind Is text bytes next apart is st more =
         begins = ([], subst Is (sym front ∙ sym (append-nil (take next bytes))) is);
         longest = λ k inside b.
             ⊎_elim (λ (past : next < k).
-            let longer : take k bytes ≡ text ++ take (k - length text) (drop next bytes) = ap (take k) whole ∙ take_past text (drop next bytes) k (omega arith) in
+            let longer : take k bytes ≡ text ++ take (k - length text) (drop next bytes) = ap (take k) whole ∙ take_append_ge text (drop next bytes) k (omega arith) in
             let e : (take k bytes ++ b.0) ++ [] ≡ text ++ (take (k - length text) (drop next bytes) ++ b.0) =
             append-nil (take k bytes ++ b.0) ∙ ap (λ t. t ++ b.0) longer ∙ append_assoc text (take (k - length text) (drop next bytes)) b.0 in
             let same : take k bytes ++ b.0 ≡ text = apart (take k bytes ++ b.0) text [] (take (k - length text) (drop next bytes) ++ b.0) b.1 is e in

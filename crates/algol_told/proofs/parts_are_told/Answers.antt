@@ -1,5 +1,5 @@
-use Rattle.algol_told.proofs.Told.{each-part-is-told}
+use Rattle.algol_told.proofs.Told.{each_part_is_told}
 use Rattle.algol_told.proofs.parts_are_told.Goals as goal
 
 pub returns : goal.returns
-returns c = each-part-is-told
+returns c = each_part_is_told

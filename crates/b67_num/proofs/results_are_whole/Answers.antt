@@ -1,5 +1,5 @@
-use Rattle.b67_num.proofs.WholeLaws.{calculated-fits}
+use Rattle.b67_num.proofs.WholeLaws.{calculated_fits}
 use Rattle.b67_num.proofs.results_are_whole.Goals as goal
 
 pub returns : goal.returns
-returns c = calculated-fits
+returns c = calculated_fits

@@ -2,8 +2,9 @@ use Rattle.std.proofs.Common.{◌∙◌, ap, length, sym}
 use Rattle.std.specs.Prelude.{not}
 use Rattle.algol_tree.specs.Plain.{PBody}
 use Rattle.algol_tree.specs.Sites.{has_decls}
+use Rattle.algol_tree.proofs.Images.{body_is}
 use Rattle.algol_check.specs.Declaring.{decls_in}
-use Rattle.algol_check.proofs.Arms.{body_is, listed_as}
+use Rattle.algol_check.proofs.Arms.{listed_as}
 use Rattle.algol_check.proofs.checker.has_declarations.Goals as goal
 
 pub returns : goal.returns

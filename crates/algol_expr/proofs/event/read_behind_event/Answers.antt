@@ -1,10 +1,11 @@
 use Rattle.std.proofs.Common.{refl, sym, ◌∙◌, arith}
-use Rattle.algol_expr.proofs.Chain.{left_as, failing, past, making, completes_done, rest_first}
+use Rattle.b67_list.proofs.Answered.{if_err_left}
+use Rattle.algol_expr.proofs.Chain.{failing, past, making, completes_done, rest_first}
 use Rattle.algol_expr.proofs.Starts.{period_starts, event_alone}
 use Rattle.algol_expr.proofs.event.read_behind_event.Goals as goal
 
 pub returns-in_err-rest-clause-refused : goal.returns-in_err-rest-clause-refused
-returns-in_err-rest-clause-refused c = left_as _ _ _ c.from_residual.ensures.1
+returns-in_err-rest-clause-refused c = if_err_left _ _ _ c.from_residual.ensures.1
     (failing (period_starts _ _ _ _ c.first_of.ensures (sym c.is_symbol.ensures ∙ c.if-is_symbol.true)) c.in_err-rest.ensures.fails)
 
 pub returns-in_ok-rest-clause-found : goal.returns-in_ok-rest-clause-found

@@ -1,5 +1,6 @@
 use Rattle.std.proofs.Common.{sym, ◌∙◌}
-use Rattle.algol_expr.proofs.Chain.{left_as, no_memory}
+use Rattle.b67_list.proofs.Answered.{if_err_left}
+use Rattle.algol_expr.proofs.Chain.{no_memory}
 use Rattle.algol_expr.proofs.Events.{events_begin, events_go_on, events_fail, events_fail_closing, events_done}
 use Rattle.algol_expr.proofs.event.read_events.Goals as goal
 
@@ -10,10 +11,10 @@ pub events-preserved : goal.events-preserved
 events-preserved c = events_go_on _ _ _ _ _ _ _ _ c.in_ok-push.ensures.items c.events.invariant c.in_ok-event.ensures.found c.first_of.ensures (sym c.is_symbol.ensures ∙ c.if-is_symbol.true)
 
 pub returns-in_err-event-clause-refused : goal.returns-in_err-event-clause-refused
-returns-in_err-event-clause-refused c = left_as _ _ _ c.from_residual.ensures.1 (events_fail _ _ _ _ _ c.events.invariant c.in_err-event.ensures.refused)
+returns-in_err-event-clause-refused c = if_err_left _ _ _ c.from_residual.ensures.1 (events_fail _ _ _ _ _ c.events.invariant c.in_err-event.ensures.refused)
 
 pub returns-in_err-rest-clause-refused : goal.returns-in_err-rest-clause-refused
-returns-in_err-rest-clause-refused c = left_as _ _ _ c.from_residual-in_err-rest.ensures.1
+returns-in_err-rest-clause-refused c = if_err_left _ _ _ c.from_residual-in_err-rest.ensures.1
     (events_fail_closing _ _ _ _ _ _ _ _ _ _ c.in_ok-push.ensures.items c.events.invariant c.in_ok-event.ensures.found c.first_of.ensures (sym c.is_symbol.ensures ∙ c.if-is_symbol.false) c.in_err-rest.ensures.fails)
 
 pub returns-else-is_symbol-clause-found : goal.returns-else-is_symbol-clause-found

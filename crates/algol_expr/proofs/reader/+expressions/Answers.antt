@@ -1,10 +1,11 @@
 use Rattle.std.proofs.Common.{[], ◌∷◌, sym, subst, ap, ◌∙◌, refl, arith, IfOk, IfErr}
 use Rattle.algol_tree.specs.Plain as plains
 use Rattle.algol_tree.specs.Image.{expr as plain, exprs as plain_list}
+use Rattle.b67_list.proofs.Answered.{if_err_left}
 use Rattle.algol_expr.proofs.Lists.{list_begins, list_goes_on, list_fails_item, list_fails_closing, list_done}
 use Rattle.algol_tree.specs.Due.{one, part, word, make}
 use Rattle.std.proofs.lemmas.Result.{IfOk-weaker}
-use Rattle.algol_expr.proofs.Chain.{if_err, left_as, no_memory, failing, via, past, making, done, finds_as, fails_as, completes_to, listing, failing_list, completes_done, behind_token, first_shorter, rest_of, rest_cons, rest_first}
+use Rattle.algol_expr.proofs.Chain.{if_err, no_memory, failing, via, past, making, done, finds_as, fails_as, completes_to, listing, failing_list, completes_done, behind_token, first_shorter, rest_of, rest_cons, rest_first}
 use Rattle.algol_expr.proofs.Starts.{if_starts, if_too_deep, expr_is, not_starts, not_too_deep, sign_starts, literal_is, not_end_literal, name_starts, primary_fails, group_starts, group_too_deep, square_starts, round_starts, square_too_deep, round_too_deep, name_alone}
 use Rattle.algol_expr.proofs.Arms.{failing_on, through, started, lists_as}
 use Rattle.algol_expr.proofs.Climbing.{steps_begin, steps_fail_first, steps_go_on, steps_fail, steps_done, begins_so, fails_so, begins_not, begins_primary, begins_signed}
@@ -19,28 +20,28 @@ use Rattle.algol_tree.specs.Found.{ReaderFinds, Extends, Fails}
 use Rattle.algol_expr.proofs.reader.+expressions.Goals as goal
 
 pub read_choice-returns-in_err-inner-clause-refused : goal.read_choice-returns-in_err-inner-clause-refused
-read_choice-returns-in_err-inner-clause-refused t c = left_as _ _ _ c.from_residual.ensures.1 (if_too_deep _ _ _ _ _ c.requires.word c.in_err-inner.ensures.deep.0 c.in_err-inner.ensures.deep.1 c.in_err-inner.ensures.deep.2)
+read_choice-returns-in_err-inner-clause-refused t c = if_err_left _ _ _ c.from_residual.ensures.1 (if_too_deep _ _ _ _ _ c.requires.word c.in_err-inner.ensures.deep.0 c.in_err-inner.ensures.deep.1 c.in_err-inner.ensures.deep.2)
 
 pub read_choice-returns-in_err-condition-clause-refused : goal.read_choice-returns-in_err-condition-clause-refused
-read_choice-returns-in_err-condition-clause-refused t c = left_as _ _ _ c.from_residual-in_err-condition.ensures.1 (failing (if_starts _ _ _ _ c.requires.word c.in_ok-inner.ensures.opens.0 c.in_ok-inner.ensures.opens.1) c.in_err-condition.ensures.refused)
+read_choice-returns-in_err-condition-clause-refused t c = if_err_left _ _ _ c.from_residual-in_err-condition.ensures.1 (failing (if_starts _ _ _ _ c.requires.word c.in_ok-inner.ensures.opens.0 c.in_ok-inner.ensures.opens.1) c.in_err-condition.ensures.refused)
 
 pub read_choice-returns-in_err-rest-clause-refused : goal.read_choice-returns-in_err-rest-clause-refused
-read_choice-returns-in_err-rest-clause-refused t c = left_as _ _ _ c.from_residual-in_err-rest.ensures.1 (failing (via (if_starts _ _ _ _ c.requires.word c.in_ok-inner.ensures.opens.0 c.in_ok-inner.ensures.opens.1) c.in_ok-condition.ensures.found) c.in_err-rest.ensures.fails)
+read_choice-returns-in_err-rest-clause-refused t c = if_err_left _ _ _ c.from_residual-in_err-rest.ensures.1 (failing (via (if_starts _ _ _ _ c.requires.word c.in_ok-inner.ensures.opens.0 c.in_ok-inner.ensures.opens.1) c.in_ok-condition.ensures.found) c.in_err-rest.ensures.fails)
 
 pub read_choice-returns-in_err-whole-clause-refused : goal.read_choice-returns-in_err-whole-clause-refused
-read_choice-returns-in_err-whole-clause-refused t c = left_as _ _ _ c.from_residual-in_err-whole.ensures.1 (failing_on (past (via (if_starts _ _ _ _ c.requires.word c.in_ok-inner.ensures.opens.0 c.in_ok-inner.ensures.opens.1) c.in_ok-condition.ensures.found) c.in_ok-rest.ensures.passes) c.in_err-whole.ensures.refused)
+read_choice-returns-in_err-whole-clause-refused t c = if_err_left _ _ _ c.from_residual-in_err-whole.ensures.1 (failing_on (past (via (if_starts _ _ _ _ c.requires.word c.in_ok-inner.ensures.opens.0 c.in_ok-inner.ensures.opens.1) c.in_ok-condition.ensures.found) c.in_ok-rest.ensures.passes) c.in_err-whole.ensures.refused)
 
 pub read_choice-returns-clause-found : goal.read_choice-returns-clause-found
 read_choice-returns-clause-found t c = done (through (past (via (if_starts _ _ _ _ c.requires.word c.in_ok-inner.ensures.opens.0 c.in_ok-inner.ensures.opens.1) c.in_ok-condition.ensures.found) c.in_ok-rest.ensures.passes) c.in_ok-whole.ensures.found) refl (rest_cons (rest_of c.in_ok-condition.ensures.found.behind (rest_of c.in_ok-rest.ensures.passes.behind c.in_ok-whole.ensures.found.behind)))
 
 pub read_arms-returns-in_err-yes-clause-refused : goal.read_arms-returns-in_err-yes-clause-refused
-read_arms-returns-in_err-yes-clause-refused t c = left_as _ _ _ c.from_residual.ensures.1 (failing (started (part (level levels.Eqv) c.args.depth ∷ word reserved.Else ∷ part expr c.args.depth ∷ make (expr_chosen c.args.spot) ∷ []) (one (plain c.args.condition.value) ∷ []) _) c.in_err-yes.ensures.refused)
+read_arms-returns-in_err-yes-clause-refused t c = if_err_left _ _ _ c.from_residual.ensures.1 (failing (started (part (level levels.Eqv) c.args.depth ∷ word reserved.Else ∷ part expr c.args.depth ∷ make (expr_chosen c.args.spot) ∷ []) (one (plain c.args.condition.value) ∷ []) _) c.in_err-yes.ensures.refused)
 
 pub read_arms-returns-in_err-rest-clause-refused : goal.read_arms-returns-in_err-rest-clause-refused
-read_arms-returns-in_err-rest-clause-refused t c = left_as _ _ _ c.from_residual-in_err-rest.ensures.1 (failing (via (started (part (level levels.Eqv) c.args.depth ∷ word reserved.Else ∷ part expr c.args.depth ∷ make (expr_chosen c.args.spot) ∷ []) (one (plain c.args.condition.value) ∷ []) _) c.in_ok-yes.ensures.found) c.in_err-rest.ensures.fails)
+read_arms-returns-in_err-rest-clause-refused t c = if_err_left _ _ _ c.from_residual-in_err-rest.ensures.1 (failing (via (started (part (level levels.Eqv) c.args.depth ∷ word reserved.Else ∷ part expr c.args.depth ∷ make (expr_chosen c.args.spot) ∷ []) (one (plain c.args.condition.value) ∷ []) _) c.in_ok-yes.ensures.found) c.in_err-rest.ensures.fails)
 
 pub read_arms-returns-in_err-otherwise-clause-refused : goal.read_arms-returns-in_err-otherwise-clause-refused
-read_arms-returns-in_err-otherwise-clause-refused t c = left_as _ _ _ c.from_residual-in_err-otherwise.ensures.1 (failing (past (via (started (part (level levels.Eqv) c.args.depth ∷ word reserved.Else ∷ part expr c.args.depth ∷ make (expr_chosen c.args.spot) ∷ []) (one (plain c.args.condition.value) ∷ []) _) c.in_ok-yes.ensures.found) c.in_ok-rest.ensures.passes) c.in_err-otherwise.ensures.refused)
+read_arms-returns-in_err-otherwise-clause-refused t c = if_err_left _ _ _ c.from_residual-in_err-otherwise.ensures.1 (failing (past (via (started (part (level levels.Eqv) c.args.depth ∷ word reserved.Else ∷ part expr c.args.depth ∷ make (expr_chosen c.args.spot) ∷ []) (one (plain c.args.condition.value) ∷ []) _) c.in_ok-yes.ensures.found) c.in_ok-rest.ensures.passes) c.in_err-otherwise.ensures.refused)
 
 pub read_arms-returns-in_err-choice-clause-refused : goal.read_arms-returns-in_err-choice-clause-refused
 read_arms-returns-in_err-choice-clause-refused t c = no_memory _ _ _ _ _ c.from_residual-in_err-choice.ensures.1 c.in_err-choice.ensures.memory
@@ -55,13 +56,13 @@ pub read_expression-returns-else-is_word-clause-refused : goal.read_expression-r
 read_expression-returns-else-is_word-clause-refused t c = fails_as c.read_up_to.result (expr_is _ _ _ _ c.first_of.ensures (sym c.is_word.ensures ∙ c.if-is_word.false)) c.read_up_to.ensures.refused
 
 pub read_group-returns-in_err-inner-clause-refused : goal.read_group-returns-in_err-inner-clause-refused
-read_group-returns-in_err-inner-clause-refused t c = left_as _ _ _ c.from_residual.ensures.1 (group_too_deep _ _ _ _ _ c.requires.symbol c.in_err-inner.ensures.deep.0 c.in_err-inner.ensures.deep.1 c.in_err-inner.ensures.deep.2)
+read_group-returns-in_err-inner-clause-refused t c = if_err_left _ _ _ c.from_residual.ensures.1 (group_too_deep _ _ _ _ _ c.requires.symbol c.in_err-inner.ensures.deep.0 c.in_err-inner.ensures.deep.1 c.in_err-inner.ensures.deep.2)
 
 pub read_group-returns-in_err-inside-clause-refused : goal.read_group-returns-in_err-inside-clause-refused
-read_group-returns-in_err-inside-clause-refused t c = left_as _ _ _ c.from_residual-in_err-inside.ensures.1 (failing (group_starts _ _ _ _ c.requires.symbol c.in_ok-inner.ensures.opens.0 c.in_ok-inner.ensures.opens.1) c.in_err-inside.ensures.refused)
+read_group-returns-in_err-inside-clause-refused t c = if_err_left _ _ _ c.from_residual-in_err-inside.ensures.1 (failing (group_starts _ _ _ _ c.requires.symbol c.in_ok-inner.ensures.opens.0 c.in_ok-inner.ensures.opens.1) c.in_err-inside.ensures.refused)
 
 pub read_group-returns-in_err-rest-clause-refused : goal.read_group-returns-in_err-rest-clause-refused
-read_group-returns-in_err-rest-clause-refused t c = left_as _ _ _ c.from_residual-in_err-rest.ensures.1 (failing (via (group_starts _ _ _ _ c.requires.symbol c.in_ok-inner.ensures.opens.0 c.in_ok-inner.ensures.opens.1) c.in_ok-inside.ensures.found) c.in_err-rest.ensures.fails)
+read_group-returns-in_err-rest-clause-refused t c = if_err_left _ _ _ c.from_residual-in_err-rest.ensures.1 (failing (via (group_starts _ _ _ _ c.requires.symbol c.in_ok-inner.ensures.opens.0 c.in_ok-inner.ensures.opens.1) c.in_ok-inside.ensures.found) c.in_err-rest.ensures.fails)
 
 pub read_group-returns-in_err-grouped-clause-refused : goal.read_group-returns-in_err-grouped-clause-refused
 read_group-returns-in_err-grouped-clause-refused t c = no_memory _ _ _ _ _ c.from_residual-in_err-grouped.ensures.1 c.in_err-grouped.ensures.memory
@@ -76,7 +77,7 @@ pub read_more-operands-preserved : goal.read_more-operands-preserved
 read_more-operands-preserved t c = operands_go_on _ _ _ _ _ _ _ _ _ _ _ _ c.operands.invariant c.first_of.ensures (sym c.operator.ensures ∙ c.in-Some.is) c.in_ok-right-in-Some.ensures.found c.in_ok-left-in-Some.ensures.built
 
 pub read_more-returns-in_err-right-in-Some-clause-refused : goal.read_more-returns-in_err-right-in-Some-clause-refused
-read_more-returns-in_err-right-in-Some-clause-refused t c = left_as _ _ _ c.from_residual.ensures.1 (operands_fail _ _ _ _ _ _ _ _ _ _ _ c.operands.invariant c.first_of.ensures (sym c.operator.ensures ∙ c.in-Some.is) c.in_err-right-in-Some.ensures.refused)
+read_more-returns-in_err-right-in-Some-clause-refused t c = if_err_left _ _ _ c.from_residual.ensures.1 (operands_fail _ _ _ _ _ _ _ _ _ _ _ c.operands.invariant c.first_of.ensures (sym c.operator.ensures ∙ c.in-Some.is) c.in_err-right-in-Some.ensures.refused)
 
 pub read_more-returns-in_err-left-in-Some-clause-refused : goal.read_more-returns-in_err-left-in-Some-clause-refused
 read_more-returns-in_err-left-in-Some-clause-refused t c = no_memory _ _ _ _ _ c.from_residual-in_err-left-in-Some.ensures.1 c.in_err-left-in-Some.ensures.memory
@@ -85,10 +86,10 @@ pub read_more-returns-in-None-clause-found : goal.read_more-returns-in-None-clau
 read_more-returns-in-None-clause-found t c = operands_done _ _ _ _ _ _ _ _ c.operands.invariant c.first_of.ensures (sym c.operator.ensures ∙ c.in-None.is)
 
 pub read_behind_name-returns-in_err-inner-clause-refused : goal.read_behind_name-returns-in_err-inner-clause-refused
-read_behind_name-returns-in_err-inner-clause-refused t c = left_as _ _ _ c.from_residual.ensures.1 (square_too_deep _ _ _ _ _ _ _ c.first_of.ensures (sym c.is_symbol.ensures ∙ c.if-is_symbol.true) c.in_err-inner.ensures.deep.0 c.in_err-inner.ensures.deep.1 c.in_err-inner.ensures.deep.2)
+read_behind_name-returns-in_err-inner-clause-refused t c = if_err_left _ _ _ c.from_residual.ensures.1 (square_too_deep _ _ _ _ _ _ _ c.first_of.ensures (sym c.is_symbol.ensures ∙ c.if-is_symbol.true) c.in_err-inner.ensures.deep.0 c.in_err-inner.ensures.deep.1 c.in_err-inner.ensures.deep.2)
 
 pub read_behind_name-returns-in_err-subs-clause-refused : goal.read_behind_name-returns-in_err-subs-clause-refused
-read_behind_name-returns-in_err-subs-clause-refused t c = left_as _ _ _ c.from_residual-in_err-subs.ensures.1 (failing_list (square_starts _ _ _ _ _ _ c.first_of.ensures (sym c.is_symbol.ensures ∙ c.if-is_symbol.true) c.in_ok-inner.ensures.opens.0 c.in_ok-inner.ensures.opens.1) c.in_err-subs.ensures.refused)
+read_behind_name-returns-in_err-subs-clause-refused t c = if_err_left _ _ _ c.from_residual-in_err-subs.ensures.1 (failing_list (square_starts _ _ _ _ _ _ c.first_of.ensures (sym c.is_symbol.ensures ∙ c.if-is_symbol.true) c.in_ok-inner.ensures.opens.0 c.in_ok-inner.ensures.opens.1) c.in_err-subs.ensures.refused)
 
 pub read_behind_name-returns-in_err-variable-clause-refused : goal.read_behind_name-returns-in_err-variable-clause-refused
 read_behind_name-returns-in_err-variable-clause-refused t c = no_memory _ _ _ _ _ c.from_residual-in_err-variable.ensures.1 c.in_err-variable.ensures.memory
@@ -97,10 +98,10 @@ pub read_behind_name-returns-in_ok-variable-clause-found : goal.read_behind_name
 read_behind_name-returns-in_ok-variable-clause-found t c = completes_done (making (listing (square_starts _ _ _ _ _ _ c.first_of.ensures (sym c.is_symbol.ensures ∙ c.if-is_symbol.true) c.in_ok-inner.ensures.opens.0 c.in_ok-inner.ensures.opens.1) c.in_ok-subs.ensures.found) (λ vs. refl)) (ap one c.in_ok-variable.ensures.built) (c.in_ok-subs.ensures.found.behind.ended) (omega (arith, (rest_first c.first_of.ensures c.in_ok-subs.ensures.found.behind).shorter))
 
 pub read_behind_name-returns-in_err-inner-2-clause-refused : goal.read_behind_name-returns-in_err-inner-2-clause-refused
-read_behind_name-returns-in_err-inner-2-clause-refused t c = left_as _ _ _ c.from_residual-in_err-inner-2.ensures.1 (round_too_deep _ _ _ _ _ _ _ c.first_of.ensures (sym c.is_symbol.ensures ∙ c.if-is_symbol.false) (sym c.is_symbol-else-is_symbol.ensures ∙ c.if-is_symbol-2.true) c.in_err-inner-2.ensures.deep.0 c.in_err-inner-2.ensures.deep.1 c.in_err-inner-2.ensures.deep.2)
+read_behind_name-returns-in_err-inner-2-clause-refused t c = if_err_left _ _ _ c.from_residual-in_err-inner-2.ensures.1 (round_too_deep _ _ _ _ _ _ _ c.first_of.ensures (sym c.is_symbol.ensures ∙ c.if-is_symbol.false) (sym c.is_symbol-else-is_symbol.ensures ∙ c.if-is_symbol-2.true) c.in_err-inner-2.ensures.deep.0 c.in_err-inner-2.ensures.deep.1 c.in_err-inner-2.ensures.deep.2)
 
 pub read_behind_name-returns-in_err-actuals-clause-refused : goal.read_behind_name-returns-in_err-actuals-clause-refused
-read_behind_name-returns-in_err-actuals-clause-refused t c = left_as _ _ _ c.from_residual-in_err-actuals.ensures.1 (failing_list (round_starts _ _ _ _ _ _ c.first_of.ensures (sym c.is_symbol.ensures ∙ c.if-is_symbol.false) (sym c.is_symbol-else-is_symbol.ensures ∙ c.if-is_symbol-2.true) c.in_ok-inner-2.ensures.opens.0 c.in_ok-inner-2.ensures.opens.1) c.in_err-actuals.ensures.refused)
+read_behind_name-returns-in_err-actuals-clause-refused t c = if_err_left _ _ _ c.from_residual-in_err-actuals.ensures.1 (failing_list (round_starts _ _ _ _ _ _ c.first_of.ensures (sym c.is_symbol.ensures ∙ c.if-is_symbol.false) (sym c.is_symbol-else-is_symbol.ensures ∙ c.if-is_symbol-2.true) c.in_ok-inner-2.ensures.opens.0 c.in_ok-inner-2.ensures.opens.1) c.in_err-actuals.ensures.refused)
 
 pub read_behind_name-returns-in_err-call-clause-refused : goal.read_behind_name-returns-in_err-call-clause-refused
 read_behind_name-returns-in_err-call-clause-refused t c = no_memory _ _ _ _ _ c.from_residual-in_err-call.ensures.1 c.in_err-call.ensures.memory
@@ -121,13 +122,13 @@ pub read_list-items-preserved : goal.read_list-items-preserved
 read_list-items-preserved t c = list_goes_on _ _ _ _ _ _ _ _ _ c.in_ok-item.item.value c.in_ok-add.ensures.added c.items.invariant c.in_ok-item.ensures.found c.first_of.ensures (sym c.is_symbol.ensures ∙ c.if-is_symbol.true)
 
 pub read_list-returns-in_err-item-clause-refused : goal.read_list-returns-in_err-item-clause-refused
-read_list-returns-in_err-item-clause-refused t c = left_as _ _ _ c.from_residual.ensures.1 (list_fails_item _ _ _ _ _ _ _ c.items.invariant c.in_err-item.ensures.refused)
+read_list-returns-in_err-item-clause-refused t c = if_err_left _ _ _ c.from_residual.ensures.1 (list_fails_item _ _ _ _ _ _ _ c.items.invariant c.in_err-item.ensures.refused)
 
 pub read_list-returns-in_err-add-clause-refused : goal.read_list-returns-in_err-add-clause-refused
 read_list-returns-in_err-add-clause-refused t c = no_memory _ _ _ _ _ c.from_residual-in_err-add.ensures.1 c.in_err-add.ensures.memory
 
 pub read_list-returns-in_err-rest-clause-refused : goal.read_list-returns-in_err-rest-clause-refused
-read_list-returns-in_err-rest-clause-refused t c = left_as _ _ _ c.from_residual-in_err-rest.ensures.1 (list_fails_closing _ _ _ _ _ _ _ _ _ c.in_ok-item.item.value _ _ c.in_ok-add.ensures.added c.items.invariant c.in_ok-item.ensures.found c.first_of.ensures (sym c.is_symbol.ensures ∙ c.if-is_symbol.false) c.in_err-rest.ensures.fails)
+read_list-returns-in_err-rest-clause-refused t c = if_err_left _ _ _ c.from_residual-in_err-rest.ensures.1 (list_fails_closing _ _ _ _ _ _ _ _ _ c.in_ok-item.item.value _ _ c.in_ok-add.ensures.added c.items.invariant c.in_ok-item.ensures.found c.first_of.ensures (sym c.is_symbol.ensures ∙ c.if-is_symbol.false) c.in_err-rest.ensures.fails)
 
 pub read_list-returns-else-is_symbol-clause-found : goal.read_list-returns-else-is_symbol-clause-found
 read_list-returns-else-is_symbol-clause-found t c = list_done _ _ _ _ _ _ _ _ _ _ c.in_ok-item.item.value (c.of.ensures ∙ c.in_ok-add.ensures.added) c.items.invariant c.in_ok-item.ensures.found c.first_of.ensures (sym c.is_symbol.ensures ∙ c.if-is_symbol.false) c.in_ok-rest.ensures.passes
@@ -207,7 +208,7 @@ pub read_primary-returns-then-is_symbol-clause-refused : goal.read_primary-retur
 read_primary-returns-then-is_symbol-clause-refused t c = subst (λ ts. IfErr c.read_group.result (λ e. Fails (part primary c.args.depth ∷ []) [] ts e.left e.refusal)) (sym c.first_of.ensures) c.read_group.ensures.refused
 
 pub read_up_to-returns-in_err-left-clause-refused : goal.read_up_to-returns-in_err-left-clause-refused
-read_up_to-returns-in_err-left-clause-refused t c = left_as _ _ _ c.from_residual.ensures.1 (steps_fail_first _ _ _ _ _ _ _ _ c.first_of.ensures c.start_of-start.ensures c.in_err-left.ensures.refused)
+read_up_to-returns-in_err-left-clause-refused t c = if_err_left _ _ _ c.from_residual.ensures.1 (steps_fail_first _ _ _ _ _ _ _ _ c.first_of.ensures c.start_of-start.ensures c.in_err-left.ensures.refused)
 
 pub read_up_to-steps-init : goal.read_up_to-steps-init
 read_up_to-steps-init t c = steps_begin _ _ _ _ _ _ _ _ _ c.first_of.ensures c.start_of-start.ensures c.steps-step-items.ensures c.in_ok-left.ensures.found
@@ -216,16 +217,16 @@ pub read_up_to-steps-preserved : goal.read_up_to-steps-preserved
 read_up_to-steps-preserved t c = steps_go_on _ _ _ _ _ c.steps.step-index _ _ _ _ _ c.steps-test.true refl c.steps.invariant c.in_ok-whole.ensures.found
 
 pub read_up_to-returns-in_err-whole-clause-refused : goal.read_up_to-returns-in_err-whole-clause-refused
-read_up_to-returns-in_err-whole-clause-refused t c = left_as _ _ _ c.from_residual-in_err-whole.ensures.1 (steps_fail _ _ _ _ _ c.steps.step-index _ _ _ _ _ c.steps-test.true refl c.steps.invariant c.in_err-whole.ensures.refused)
+read_up_to-returns-in_err-whole-clause-refused t c = if_err_left _ _ _ c.from_residual-in_err-whole.ensures.1 (steps_fail _ _ _ _ _ c.steps.step-index _ _ _ _ _ c.steps-test.true refl c.steps.invariant c.in_err-whole.ensures.refused)
 
 pub read_up_to-returns-clause-found : goal.read_up_to-returns-clause-found
 read_up_to-returns-clause-found t c = steps_done _ _ _ _ _ c.steps.step-index _ c.steps-test.false c.steps.invariant
 
 pub read_not-returns-in_err-inner-clause-refused : goal.read_not-returns-in_err-inner-clause-refused
-read_not-returns-in_err-inner-clause-refused t c = left_as _ _ _ c.from_residual.ensures.1 (not_too_deep _ _ _ _ _ c.requires.word c.in_err-inner.ensures.deep.0 c.in_err-inner.ensures.deep.1 c.in_err-inner.ensures.deep.2)
+read_not-returns-in_err-inner-clause-refused t c = if_err_left _ _ _ c.from_residual.ensures.1 (not_too_deep _ _ _ _ _ c.requires.word c.in_err-inner.ensures.deep.0 c.in_err-inner.ensures.deep.1 c.in_err-inner.ensures.deep.2)
 
 pub read_not-returns-in_err-operand-clause-refused : goal.read_not-returns-in_err-operand-clause-refused
-read_not-returns-in_err-operand-clause-refused t c = left_as _ _ _ c.from_residual-in_err-operand.ensures.1 (failing (not_starts _ _ _ _ c.requires.word c.in_ok-inner.ensures.opens.0 c.in_ok-inner.ensures.opens.1) c.in_err-operand.ensures.refused)
+read_not-returns-in_err-operand-clause-refused t c = if_err_left _ _ _ c.from_residual-in_err-operand.ensures.1 (failing (not_starts _ _ _ _ c.requires.word c.in_ok-inner.ensures.opens.0 c.in_ok-inner.ensures.opens.1) c.in_err-operand.ensures.refused)
 
 pub read_not-returns-in_err-negated-clause-refused : goal.read_not-returns-in_err-negated-clause-refused
 read_not-returns-in_err-negated-clause-refused t c = no_memory _ _ _ _ _ c.from_residual-in_err-negated.ensures.1 c.in_err-negated.ensures.memory
@@ -234,7 +235,7 @@ pub read_not-returns-clause-found : goal.read_not-returns-clause-found
 read_not-returns-clause-found t c = done (making (via (not_starts _ _ _ _ c.requires.word c.in_ok-inner.ensures.opens.0 c.in_ok-inner.ensures.opens.1) c.in_ok-operand.ensures.found) (λ vs. refl)) (ap one c.in_ok-negated.ensures.built) (rest_cons c.in_ok-operand.ensures.found.behind)
 
 pub read_signed-returns-in_err-operand-clause-refused : goal.read_signed-returns-in_err-operand-clause-refused
-read_signed-returns-in_err-operand-clause-refused t c = left_as _ _ _ c.from_residual.ensures.1 (failing (sign_starts levels.Sum _ _ _ _ refl c.requires.sign) c.in_err-operand.ensures.refused)
+read_signed-returns-in_err-operand-clause-refused t c = if_err_left _ _ _ c.from_residual.ensures.1 (failing (sign_starts levels.Sum _ _ _ _ refl c.requires.sign) c.in_err-operand.ensures.refused)
 
 pub read_signed-returns-in_err-signed-clause-refused : goal.read_signed-returns-in_err-signed-clause-refused
 read_signed-returns-in_err-signed-clause-refused t c = no_memory _ _ _ _ _ c.from_residual-in_err-signed.ensures.1 c.in_err-signed.ensures.memory
@@ -243,7 +244,7 @@ pub read_signed-returns-clause-found : goal.read_signed-returns-clause-found
 read_signed-returns-clause-found t c = begins_signed _ _ _ _ _ (making (via (sign_starts levels.Sum _ _ _ _ refl c.requires.sign) c.in_ok-operand.ensures.found) (λ vs. refl)) (ap one c.in_ok-signed.ensures.built) (rest_cons c.in_ok-operand.ensures.found.behind)
 
 pub read_relation-returns-in_err-right-in-Some-clause-refused : goal.read_relation-returns-in_err-right-in-Some-clause-refused
-read_relation-returns-in_err-right-in-Some-clause-refused t c = left_as _ _ _ c.from_residual.ensures.1 (relation_fails _ _ _ _ _ c.first_of.ensures _ _ _ (sym c.relation.ensures ∙ c.in-Some.is) c.in_err-right-in-Some.ensures.refused)
+read_relation-returns-in_err-right-in-Some-clause-refused t c = if_err_left _ _ _ c.from_residual.ensures.1 (relation_fails _ _ _ _ _ c.first_of.ensures _ _ _ (sym c.relation.ensures ∙ c.in-Some.is) c.in_err-right-in-Some.ensures.refused)
 
 pub read_relation-returns-in_err-two-in-Some-clause-refused : goal.read_relation-returns-in_err-two-in-Some-clause-refused
 read_relation-returns-in_err-two-in-Some-clause-refused t c = no_memory _ _ _ _ _ c.from_residual-in_err-two-in-Some.ensures.1 c.in_err-two-in-Some.ensures.memory

@@ -3,7 +3,8 @@ use Rattle.std.specs.Prelude.{if◌then◌else◌, slice_get}
 use Rattle.std.specs.Vec.{vec_len}
 use Rattle.std.proofs.lemmas.Option.{slice_get_read}
 use Rattle.algol_tree.specs.Blocks.{same_spot}
-use Rattle.algol_frames.proofs.ByLine.{line_changed, on_ok}
+use Rattle.b67_list.proofs.Answered.{on_ok}
+use Rattle.algol_frames.proofs.ByLine.{line_changed}
 use Rattle.algol_frames.proofs.by_line.put_at.Goals as goal
 
 pub returns : goal.returns

@@ -8,7 +8,7 @@ use Rattle.algol_tree.specs.declared.token.Spot.{Spot}
 use Rattle.algol_lexer.specs.Records.{record_of}
 use Rattle.algol_lexer.specs.Shown.{mode_of, front_shown}
 use Rattle.algol_lexer.proofs.LexOnly.{stands_fits}
-use Rattle.algol_lexer.proofs.LexReach.{reaches_start, reaches_more, reaches_long, reaches_wrong, stands_there, length-token_at}
+use Rattle.algol_lexer.proofs.LexReach.{reaches_start, reaches_more, reaches_long, reaches_wrong, stands_there, length_token_at}
 use Rattle.algol_lexer.proofs.lexer.read_record.Goals as goal
 
 -- before the first column
@@ -39,7 +39,7 @@ reading-preserved c =
     record {
       reached = reaches_more c.reading.invariant.reached st new;
       within = omega (arith, fits.0, fits.1, c.split_at.ensures.back_len);
-      many = omega (arith, fits.0, ap length new, length-append c.reading.tokens.items (token_at (record_of c.args.card.now) c.reading.at c.in-Piece.size c.in-Piece.kind), length-token_at (record_of c.args.card.now) c.reading.at c.in-Piece.size c.in-Piece.kind, c.reading.invariant.many);
+      many = omega (arith, fits.0, ap length new, length-append c.reading.tokens.items (token_at (record_of c.args.card.now) c.reading.at c.in-Piece.size c.in-Piece.kind), length_token_at (record_of c.args.card.now) c.reading.at c.in-Piece.size c.in-Piece.kind, c.reading.invariant.many);
     }
 
 -- what cannot be read

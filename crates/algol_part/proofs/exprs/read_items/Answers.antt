@@ -1,6 +1,6 @@
 use Rattle.std.proofs.Common.{[], refl, sym, ap, ◌∙◌, arith}
-use Rattle.algol_expr.proofs.Chain.{making}
-use Rattle.algol_part.proofs.Chains.{completed, takes_it, makes_it, behind_symbol}
+use Rattle.algol_expr.proofs.Chain.{making, completes_done}
+use Rattle.algol_part.proofs.Chains.{takes_it, makes_it, behind_symbol}
 use Rattle.algol_tree.specs.Due.{many, items_part}
 use Rattle.algol_tree.specs.DueStmt.{wholes_in}
 use Rattle.algol_part.proofs.Tails.{completes_by, refuses_by}
@@ -16,4 +16,4 @@ pub returns-then-is_symbol-clause-refused : goal.returns-then-is_symbol-clause-r
 returns-then-is_symbol-clause-refused c = refuses_by c.read_exprs.result wholes_in (takes_it c.first_of.ensures items_part _ {ds = []} {us = []} (items_on c.first_of.ensures (sym c.is_symbol.ensures ∙ c.if-is_symbol.true))) c.read_exprs.ensures.refused
 
 pub returns-else-is_symbol-clause-found : goal.returns-else-is_symbol-clause-found
-returns-else-is_symbol-clause-found c = completed (making (makes_it c.first_of.ensures items_part _ {ds = []} {us = []} (items_off c.first_of.ensures (sym c.is_symbol.ensures ∙ c.if-is_symbol.false))) (λ vs. refl)) (ap (λ xs. many (image.exprs xs)) (c.of.ensures ∙ c.new.ensures.items)) c.requires.ended (omega arith)
+returns-else-is_symbol-clause-found c = completes_done (making (makes_it c.first_of.ensures items_part _ {ds = []} {us = []} (items_off c.first_of.ensures (sym c.is_symbol.ensures ∙ c.if-is_symbol.false))) (λ vs. refl)) (ap (λ xs. many (image.exprs xs)) (c.of.ensures ∙ c.new.ensures.items)) c.requires.ended (omega arith)

@@ -1,6 +1,7 @@
 use Rattle.std.proofs.Common.{[], ◌∷◌, ◌++◌, refl, sym, ◌∙◌}
-use Rattle.algol_expr.proofs.Chain.{making}
-use Rattle.algol_part.proofs.Chains.{bringing, refusing_all, left_as, refuses_here, behind_it, behind_word, rest_of, takes_all, added}
+use Rattle.algol_expr.proofs.Chain.{making, rest_of}
+use Rattle.b67_list.proofs.Answered.{if_err_left}
+use Rattle.algol_part.proofs.Chains.{bringing, refusing_all, refuses_here, behind_it, behind_word, takes_all, added}
 use Rattle.algol_tree.specs.DueDecl.{rows_specified}
 use Rattle.algol_tree.specs.declared.tree.Kind.TheVariants as types
 use Rattle.algol_part.proofs.Tails.{adds_by, adds_none}
@@ -16,7 +17,7 @@ pub returns-in-Some-clause-refused : goal.returns-in-Some-clause-refused
 returns-in-Some-clause-refused c = adds_none c.read_typed_spec.result due.specified (due.spec_typed _ ∷ []) (λ us. takes_all c.first_of.ensures due.spec (due.spec_typed _ ∷ []) {us = us} (spec_kind c.first_of.ensures _ (sym c.type_of.ensures ∙ c.in-Some.is))) c.read_typed_spec.ensures.refused
 
 pub returns-in_err-names-clause-refused : goal.returns-in_err-names-clause-refused
-returns-in_err-names-clause-refused c = left_as _ _ _ c.from_residual.ensures.1 (λ xs. refusing_all _ (takes_all c.first_of.ensures due.spec spec_of_events {us = due.specified xs ∷ []} (spec_event c.first_of.ensures (sym c.is_word.ensures ∙ c.if-is_word.true))) c.in_err-names.ensures.refused)
+returns-in_err-names-clause-refused c = if_err_left _ _ _ c.from_residual.ensures.1 (λ xs. refusing_all _ (takes_all c.first_of.ensures due.spec spec_of_events {us = due.specified xs ∷ []} (spec_event c.first_of.ensures (sym c.is_word.ensures ∙ c.if-is_word.true))) c.in_err-names.ensures.refused)
 
 pub returns-in_ok-names-clause-found : goal.returns-in_ok-names-clause-found
 returns-in_ok-names-clause-found c = added (λ xs. making (bringing (takes_all c.first_of.ensures due.spec spec_of_events {us = due.specified xs ∷ []} (spec_event c.first_of.ensures (sym c.is_word.ensures ∙ c.if-is_word.true))) c.in_ok-names.ensures.found) (λ vs. refl)) (rest_of (behind_word c.first_of.ensures reserved.Event c.requires.ended (sym c.is_word.ensures ∙ c.if-is_word.true)) (c.in_ok-names.ensures.found.behind))

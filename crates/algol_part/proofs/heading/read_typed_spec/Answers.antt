@@ -1,6 +1,7 @@
 use Rattle.std.proofs.Common.{[], ◌∷◌, ◌++◌, refl, sym, ◌∙◌}
 use Rattle.algol_expr.proofs.Chain.{making}
-use Rattle.algol_part.proofs.Chains.{bringing, refusing_all, left_as, behind_word, takes_all, added}
+use Rattle.b67_list.proofs.Answered.{if_err_left}
+use Rattle.algol_part.proofs.Chains.{bringing, refusing_all, behind_word, takes_all, added}
 use Rattle.algol_tree.specs.DueDecl.{rows_specified}
 use Rattle.algol_part.proofs.Tails.{adds_by, adds_none}
 use Rattle.algol_part.proofs.Specs.{typed_array, typed_names}
@@ -15,7 +16,7 @@ pub returns-then-is_word-clause-refused : goal.returns-then-is_word-clause-refus
 returns-then-is_word-clause-refused c = adds_none c.read_array_spec.result due.specified (rows_specified c.args.kind) (λ us. takes_all c.first_of.ensures (due.spec_typed c.args.kind) (rows_specified c.args.kind) {us = us} (typed_array c.first_of.ensures _ (sym c.is_word.ensures ∙ c.if-is_word.true))) c.read_array_spec.ensures.refused
 
 pub returns-in_err-names-clause-refused : goal.returns-in_err-names-clause-refused
-returns-in_err-names-clause-refused c = left_as _ _ _ c.from_residual.ensures.1 (λ xs. refusing_all _ (typed_names (due.specified xs ∷ []) c.first_of.ensures c.args.kind (sym c.is_word.ensures ∙ c.if-is_word.false)) c.in_err-names.ensures.refused)
+returns-in_err-names-clause-refused c = if_err_left _ _ _ c.from_residual.ensures.1 (λ xs. refusing_all _ (typed_names (due.specified xs ∷ []) c.first_of.ensures c.args.kind (sym c.is_word.ensures ∙ c.if-is_word.false)) c.in_err-names.ensures.refused)
 
 pub returns-in_ok-names-clause-found : goal.returns-in_ok-names-clause-found
 returns-in_ok-names-clause-found c = added (λ xs. making (bringing (typed_names (due.specified xs ∷ []) c.first_of.ensures c.args.kind (sym c.is_word.ensures ∙ c.if-is_word.false)) c.in_ok-names.ensures.found) (λ vs. refl)) (c.in_ok-names.ensures.found.behind)

@@ -1,14 +1,16 @@
 use Rattle.std.proofs.Common.{[], refl}
-use Rattle.algol_expr.proofs.Chain.{past, via}
-use Rattle.algol_part.proofs.Chains.{begun, refusing, failing, left_as, brought, rest_of}
+use Rattle.algol_expr.proofs.Chain.{past, via, rest_of}
+use Rattle.algol_expr.proofs.Arms.{started}
+use Rattle.b67_list.proofs.Answered.{if_err_left}
+use Rattle.algol_part.proofs.Chains.{refusing, failing, brought}
 use Rattle.algol_part.specs.Phrases.{whole_before}
 use Rattle.algol_part.proofs.simple.read_before.Goals as goal
 
 pub returns-in_err-expr-clause-refused : goal.returns-in_err-expr-clause-refused
-returns-in_err-expr-clause-refused c = left_as _ _ _ c.from_residual.ensures.1 (refusing (begun (whole_before c.args.word) [] _) c.in_err-expr.ensures.fails)
+returns-in_err-expr-clause-refused c = if_err_left _ _ _ c.from_residual.ensures.1 (refusing (started (whole_before c.args.word) [] _) c.in_err-expr.ensures.fails)
 
 pub returns-in_err-rest-clause-refused : goal.returns-in_err-rest-clause-refused
-returns-in_err-rest-clause-refused c = left_as _ _ _ c.from_residual-in_err-rest.ensures.1 (failing (via (begun (whole_before c.args.word) [] _) c.in_ok-expr.ensures.found) c.in_err-rest.ensures.fails)
+returns-in_err-rest-clause-refused c = if_err_left _ _ _ c.from_residual-in_err-rest.ensures.1 (failing (via (started (whole_before c.args.word) [] _) c.in_ok-expr.ensures.found) c.in_err-rest.ensures.fails)
 
 pub returns-clause-found : goal.returns-clause-found
-returns-clause-found c = brought (past (via (begun (whole_before c.args.word) [] _) c.in_ok-expr.ensures.found) c.in_ok-rest.ensures.passes) (refl) (rest_of (c.in_ok-expr.ensures.found.behind) (c.in_ok-rest.ensures.passes.behind))
+returns-clause-found c = brought (past (via (started (whole_before c.args.word) [] _) c.in_ok-expr.ensures.found) c.in_ok-rest.ensures.passes) (refl) (rest_of (c.in_ok-expr.ensures.found.behind) (c.in_ok-rest.ensures.passes.behind))

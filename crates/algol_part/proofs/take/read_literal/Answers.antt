@@ -1,6 +1,6 @@
 use Rattle.std.proofs.Common.{[], ◌∷◌, refl, sym, ap, ◌∙◌}
-use Rattle.algol_expr.proofs.Chain.{making}
-use Rattle.algol_part.proofs.Chains.{found, refuses_here, takes_it, behind_it, behind_symbol}
+use Rattle.algol_expr.proofs.Chain.{making, done}
+use Rattle.algol_part.proofs.Chains.{refuses_here, takes_it, behind_it, behind_symbol}
 use mir.Val.{SFits}
 use Rattle.std.proofs.Common.{w64, rules}
 use Rattle.std.proofs.lemmas.Int.{to_z-of_z}
@@ -18,7 +18,7 @@ pub returns-then-is_symbol-clause-refused : goal.returns-then-is_symbol-clause-r
 returns-then-is_symbol-clause-refused c = refuses_by c.read_negated.result (number_negated ∷ []) (takes_it c.first_of.ensures literal (number_negated ∷ []) {ds = []} {us = []} (minus_takes c.first_of.ensures (sym c.is_symbol.ensures ∙ c.if-is_symbol.true))) c.read_negated.ensures.refused
 
 pub returns-in-Some-clause-found : goal.returns-in-Some-clause-found
-returns-in-Some-clause-found c = let fits : SFits w64 c.number.result = search rules in found (making (takes_it c.first_of.ensures literal _ {ds = []} {us = []} (number_takes c.first_of.ensures _ c.in-Some.ensures.some)) (λ vs. refl)) (ap due.low (to_z-of_z w64 c.number.result fits ∙ c.number.ensures.value)) (behind_it c.first_of.ensures c.requires.ended (not_end_number _ _ c.in-Some.ensures.some))
+returns-in-Some-clause-found c = let fits : SFits w64 c.number.result = search rules in done (making (takes_it c.first_of.ensures literal _ {ds = []} {us = []} (number_takes c.first_of.ensures _ c.in-Some.ensures.some)) (λ vs. refl)) (ap due.low (to_z-of_z w64 c.number.result fits ∙ c.number.ensures.value)) (behind_it c.first_of.ensures c.requires.ended (not_end_number _ _ c.in-Some.ensures.some))
 
 pub returns-in-None-clause-refused : goal.returns-in-None-clause-refused
 returns-in-None-clause-refused c = refuses_here c.first_of.ensures _ literal [] [] _ refl (literal_refuses c.first_of.ensures (sym c.is_symbol.ensures ∙ c.if-is_symbol.false) c.in-None.ensures.none) c.unexpected.ensures

@@ -1,14 +1,12 @@
-use Rattle.std.proofs.Common.{arith, ◌≡◌, ◌<◌, ◌-◌, ℕ, suc, true, false, List, length, ap, sym, ◌∙◌, subst, Option, Some, None, slice_get}
+use Rattle.std.proofs.Common.{◌≡◌, ℕ, true, false, List, length, ap, sym, ◌∙◌, subst, Option, Some, None, slice_get}
 use Rattle.algol_meaning.specs.Critical.{is_this}
 use Rattle.algol_cells.specs.SeenScope.{scoped}
 use Rattle.algol_world.specs.SeenWorld as views
 use Rattle.algol_world.specs.SeenWorld.{process_of}
+use Rattle.b67_list.proofs.Numbers.{smaller}
 use Rattle.algol_perform.specs.Going.{own_instance_of, AreLeft}
 use Rattle.algol_perform.proofs.Newer.{Seeking, seek_none, seek_here, seek_more, below_length, longer}
 use Rattle.algol_perform.proofs.parts.left_by.Goals as goal
-
-smaller : (a b c : ℕ) → b < a → c ≡ suc b → a - c < a - b
-smaller a b c l e = omega arith
 
 pub returns-then-is_this : goal.returns-then-is_this
 returns-then-is_this c =

@@ -7,7 +7,7 @@ use Rattle.algol_rest_expr.specs.declared.part.Given.{Given}
 use Rattle.algol_world.specs.declared.world.World.{World}
 use Rattle.algol_world.specs.declared.world.Part.{Part}
 use Rattle.algol_effect.specs.Effects.{given_cells_in}
-use Rattle.algol_step.proofs.Walking.{left_next}
+use Rattle.b67_list.proofs.Lists.{drop_read}
 use Rattle.algol_step.proofs.calling.given_cells.Goals as goal
 
 cells_next :
@@ -19,7 +19,7 @@ cells_next w p part done new all gs i g h is pushed inv =
     let r : List plain.Cell = given_cells_in w p part (seen.all_done (drop (i + 1) gs)) in
     ap (λ (cs : List plain.Cell). cs ++ r) pushed
     ∙ append_assoc done (given_cells_in w p part (seen.done g ∷ [])) r
-    ∙ ap (λ (hs : List Given). done ++ given_cells_in w p part (seen.all_done hs)) (sym (left_next gs i g h is))
+    ∙ ap (λ (hs : List Given). done ++ given_cells_in w p part (seen.all_done hs)) (sym (drop_read gs i g h is))
     ∙ inv
 
 cells_given :

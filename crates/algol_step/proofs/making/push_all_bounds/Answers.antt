@@ -7,7 +7,7 @@ use Rattle.algol_meaning.specs.SeenTree.{pair, pairs}
 use Rattle.algol_cells.specs.SeenValue.{value}
 use Rattle.algol_cells.specs.SeenCell as seen
 use Rattle.algol_cells.specs.declared.value.Value.{Value}
-use Rattle.algol_step.proofs.Walking.{left_next}
+use Rattle.b67_list.proofs.Lists.{drop_read}
 use Rattle.algol_step.proofs.making.push_all_bounds.Goals as goal
 
 bounds_next :
@@ -21,7 +21,7 @@ bounds_next done new ps i p left rest v all h is e pushed inv =
     let b : plain.Bounds = record { low = (pair p).low; high = plain.whole_of (value v) } in
     ap (λ (xs : List plain.Bounds). xs ++ r) pushed
     ∙ append_assoc done (b ∷ []) r
-    ∙ ap (λ (qs : List Pair). done ++ arrays.bounds_of (pairs qs) (map value (v ∷ rest))) (sym (left_next ps i p h is))
+    ∙ ap (λ (qs : List Pair). done ++ arrays.bounds_of (pairs qs) (map value (v ∷ rest))) (sym (drop_read ps i p h is))
     ∙ ap (λ (vs : List Value). done ++ arrays.bounds_of (pairs (drop i ps)) (map value vs)) (sym e)
     ∙ inv
 

@@ -7,7 +7,7 @@ use Rattle.algol_meaning.specs.Value as plain
 use Rattle.algol_meaning.specs.Arrays as arrays
 use Rattle.algol_cells.specs.SeenCell as seen
 use Rattle.algol_instances.specs.SeenInstance.{named_cells}
-use Rattle.algol_step.proofs.Walking.{left_next}
+use Rattle.b67_list.proofs.Lists.{drop_read}
 use Rattle.algol_step.proofs.making.push_arrays.Goals as goal
 
 arrays_next :
@@ -19,7 +19,7 @@ arrays_next k bs done new all ns i n h is pushed inv =
     let r : List world.NamedCell = arrays.new_arrays k bs (drop (i + 1) ns) in
     ap (λ (cs : List world.NamedCell). cs ++ r) pushed
     ∙ append_assoc done (arrays.new_arrays k bs (n ∷ [])) r
-    ∙ ap (λ (ms : List Named). done ++ arrays.new_arrays k bs ms) (sym (left_next ns i n h is))
+    ∙ ap (λ (ms : List Named). done ++ arrays.new_arrays k bs ms) (sym (drop_read ns i n h is))
     ∙ inv
 
 arrays_made :

@@ -1,5 +1,6 @@
 use Rattle.std.proofs.Common.{refl, sym, ap, subst}
 use Rattle.b67_list.specs.Numbered.{numbered}
+use Rattle.b67_list.proofs.Answered.{when_ok}
 use Rattle.b67_events.specs.declared.Woken.{Woken}
 use Rattle.b67_table.specs.Program.{does}
 use Rattle.b67_reach.specs.Images.{image_of}
@@ -9,7 +10,7 @@ use Rattle.b67_action.specs.Acting.{row_effect, RowReleases}
 use Rattle.b67_action.specs.Among.{with_all, EffectComes}
 use Rattle.b67_private.specs.Actions.{words_program}
 use Rattle.b67_action.proofs.Coming.{comes_by}
-use Rattle.b67_action.proofs.Releasing.{on_ok, on_same}
+use Rattle.b67_action.proofs.Releasing.{on_same}
 use Rattle.b67_action.proofs.acting.perform_plainly.Goals as goal
 
 pub returns-in-Own-clause-comes : goal.returns-in-Own-clause-comes
@@ -33,14 +34,14 @@ pub returns-in-Own-clause-woken : goal.returns-in-Own-clause-woken
 returns-in-Own-clause-woken g c =
     let img = image_of (g.C.Core.stacks c.args.core.now) (g.C.Core.rows c.args.core.now) c.args.kernel.now c.args.parts.now in
     let before = c.args.parts.now.woken.processes.items in
-    on_ok c.perform_own_in.result _
+    when_ok c.perform_own_in.result _
     (subst (λ (w : Row). RowReleases w img (numbered c.args.parts.now.regs.items c.args.process) before before) (sym c.in-Own.is) refl)
 
 pub returns-in-Words-clause-woken : goal.returns-in-Words-clause-woken
 returns-in-Words-clause-woken g c =
     let img = image_of (g.C.Core.stacks c.args.core.now) (g.C.Core.rows c.args.core.now) c.args.kernel.now c.args.parts.now in
     let before = c.args.parts.now.woken.processes.items in
-    on_ok c.plainly.result _
+    when_ok c.plainly.result _
     (subst (λ (w : Row). RowReleases w img (numbered c.args.parts.now.regs.items c.args.process) before before) (sym c.in-Words.is) refl)
 
 pub returns-in-Exit-clause-woken : goal.returns-in-Exit-clause-woken
@@ -56,6 +57,6 @@ returns-in-ReturnValue-clause-woken g c =
     let img = image_of (g.C.Core.stacks c.args.core.now) (g.C.Core.rows c.args.core.now) c.args.kernel.now c.args.parts.now in
     let before = c.args.parts.now.woken.processes.items in
     let after = c.return_value.new.parts.woken.processes.items in
-    on_ok c.return_value.result _
+    when_ok c.return_value.result _
     (subst (λ (w : Row). RowReleases w img (numbered c.args.parts.now.regs.items c.args.process) before after) (sym c.in-ReturnValue.is)
     (ap (λ (w : Woken). w.processes.items) c.return_value.ensures.woken))

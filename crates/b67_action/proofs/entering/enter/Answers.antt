@@ -1,5 +1,6 @@
 use Rattle.std.proofs.Common.{true, false, refl, sym, subst, ◌∙◌, Option, Result}
 use Rattle.b67_list.specs.Numbered.{numbered}
+use Rattle.b67_list.proofs.Answered.{when_ok}
 use Rattle.b67_control.specs.declared.Registers.{Registers}
 use Rattle.b67_table.specs.Rows.{enter}
 use Rattle.b67_intrinsics.specs.declared.hindrance.Hindrance.{Hindrance}
@@ -10,7 +11,7 @@ use Rattle.b67_action.specs.Acting.{CallsMaker}
 use Rattle.b67_action.specs.Among.{with_all, entry_program}
 use Rattle.b67_action.proofs.Calling.{enter_stops, enter_calls, enter_enters, tries_plainly, never_hindered}
 use Rattle.b67_action.proofs.Lettering.{entered_letter}
-use Rattle.b67_action.proofs.Releasing.{on_ok, on_same, enter_releases}
+use Rattle.b67_action.proofs.Releasing.{on_same, enter_releases}
 use Rattle.b67_action.proofs.entering.enter.Goals as goal
 
 pub returns-in-Err-clause-tries : goal.returns-in-Err-clause-tries
@@ -56,20 +57,20 @@ returns-then-called-clause-woken g c =
 pub returns-else-called-clause-woken : goal.returns-else-called-clause-woken
 returns-else-called-clause-woken g c =
     let img = image_of (g.C.Core.stacks c.args.core.now) (g.C.Core.rows c.args.core.now) c.args.kernel.now c.args.parts.now in
-    on_ok c.hindered.result _
+    when_ok c.hindered.result _
     (enter_releases img (numbered c.args.parts.now.regs.items c.args.process) c.registers-regs.result.now c.registers-regs.ensures c.in-Ok.called c.in-Ok.ensures.value
     c.args.parts.now.woken.processes.items c.args.parts.now.woken.processes.items false c.if-called.false refl)
 
 pub returns-then-called-clause-letter : goal.returns-then-called-clause-letter
 returns-then-called-clause-letter g c =
     let img = image_of (g.C.Core.stacks c.args.core.now) (g.C.Core.rows c.args.core.now) c.args.kernel.now c.args.parts.now in
-    on_ok c.call.result _
+    when_ok c.call.result _
     (entered_letter img (numbered c.args.parts.now.regs.items c.args.process) c.registers-regs.result.now c.in-Ok.called c.woken_number-woken.result c.from.result c.called_letter.result c.registers-regs.ensures
     c.in-Ok.ensures.value c.from.ensures c.woken_number-woken.ensures c.called_letter.ensures)
 
 pub returns-else-called-clause-letter : goal.returns-else-called-clause-letter
 returns-else-called-clause-letter g c =
     let img = image_of (g.C.Core.stacks c.args.core.now) (g.C.Core.rows c.args.core.now) c.args.kernel.now c.args.parts.now in
-    on_ok c.hindered.result _
+    when_ok c.hindered.result _
     (entered_letter img (numbered c.args.parts.now.regs.items c.args.process) c.registers-regs.result.now c.in-Ok.called c.woken_number-woken.result c.from.result c.called_letter.result c.registers-regs.ensures
     c.in-Ok.ensures.value c.from.ensures c.woken_number-woken.ensures c.called_letter.ensures)

@@ -1,10 +1,10 @@
 use Rattle.std.proofs.Common.{sym, ap, subst, ◌∙◌, ◌-◌, set, Option}
 use Rattle.b67_control.specs.declared.Registers.{Registers}
 use Rattle.b67_table.specs.Rows.{enter}
-use Rattle.b67_table.proofs.Lists.{numbered_same}
 use Rattle.b67_operators.proofs.AtOnce.{well}
 use Rattle.b67_operators.proofs.Leaves.{here, set_here}
 use Rattle.b67_reach.specs.Images.{Own}
+use Rattle.b67_list.proofs.Numbered.{numbered_same}
 use Rattle.b67_action.specs.Acting.{EntersPlainly}
 use Rattle.b67_action.proofs.Among.{acts_in, has}
 use Rattle.b67_action.proofs.onward.enter_in.Goals as goal

@@ -1,7 +1,7 @@
 use Rattle.std.proofs.Common.{subst, ◌∙◌}
 use Rattle.b67_store.specs.Store.{with_cut}
 use Rattle.b67_table.specs.Image.{Image}
-use Rattle.b67_private.proofs.Stepping.{kept_all}
+use Rattle.b67_table.proofs.Cited.{keeps_both}
 use Rattle.b67_reach.specs.Images.{with_own}
 use Rattle.b67_action.specs.Reaching.{own_of}
 use Rattle.b67_action.specs.Running.{HasCome, HasRun}
@@ -72,7 +72,7 @@ lending-preserved g c =
       entries = c.run_lent-next.ensures.entries;
       counted = c.run_lent-next.ensures.counted;
       most = c.run_lent-next.ensures.most;
-      keeps = kept_all r x.regs z.regs c.lending.invariant.keeps c.run_lent-next.ensures.keeps;
+      keeps = keeps_both r x.regs z.regs c.lending.invariant.keeps c.run_lent-next.ensures.keeps;
     }
 
 pub lending-smaller : goal.lending-smaller

@@ -1,7 +1,7 @@
 use Rattle.std.proofs.Common.{◌≡◌, ◌<◌, ◌≤◌, sym, subst, ◌∙◌, ◌+◌, ◌-◌, ◌++◌, length, take, drop, set, arith}
 use Rattle.std.proofs.lemmas.List.{length-drop, length-set, take_more_set}
 use Rattle.b67_table.specs.Image.{Image}
-use Rattle.b67_private.proofs.Stepping.{kept_all}
+use Rattle.b67_table.proofs.Cited.{keeps_both}
 use Rattle.b67_store.specs.Store.{with_cut}
 use Rattle.b67_reach.specs.Images.{Own, with_own}
 use Rattle.b67_action.specs.declared.running.Ran.{Ran}
@@ -111,7 +111,7 @@ running-preserved g c =
       entries = few;
       counted = omega (arith, c.running.invariant.counted, c.run_here-more.ensures.counted);
       most = omega (arith, c.run_here-more.ensures.most, c.running-test.true);
-      keeps = kept_all r y.regs z.regs (kept_all r x.regs y.regs c.running.invariant.keeps c.reach.ensures.keeps) c.run_here-more.ensures.keeps;
+      keeps = keeps_both r y.regs z.regs (keeps_both r x.regs y.regs c.running.invariant.keeps c.reach.ensures.keeps) c.run_here-more.ensures.keeps;
     }
 
 pub returns-else-ran-most-clause-ran : goal.returns-else-ran-most-clause-ran

@@ -7,8 +7,8 @@ use Rattle.b67_control.specs.declared.Registers.{Registers}
 use Rattle.b67_deeds.specs.declared.Letter.{Letter}
 use Rattle.b67_segment.specs.Decoded.{found, AreDecoded}
 use Rattle.b67_table.specs.Image.{Image}
+use Rattle.b67_table.proofs.Cited.{keeps_both}
 use Rattle.b67_private.specs.Prepared.{IsFlatRowOf}
-use Rattle.b67_private.proofs.Stepping.{kept_all}
 use Rattle.b67_action.specs.declared.running.Ran.{Ran}
 use Rattle.b67_action.specs.Running.{IsLent, HasRunIn, ActionGoesOn, given_back}
 use Rattle.b67_action.proofs.Lent.{back_same, lent_same, given_twice, given_thrice}
@@ -135,7 +135,7 @@ running-preserved-else-entries-letters c =
       few = omega (arith, c.running.invariant.few, c.running.invariant.operators);
       is_open = λ some. omega (arith, less, length-set c.running.letters n letter, c.if-entries-letters.false);
       done = omega (arith, c.running-test.true);
-      keeps = kept_all c.args.regs.now r q c.running.invariant.keeps (kept_all r a q c.plain_by_row.ensures.keeps c.act_by_row.ensures.keeps);
+      keeps = keeps_both c.args.regs.now r q c.running.invariant.keeps (keeps_both r a q c.plain_by_row.ensures.keeps c.act_by_row.ensures.keeps);
       place = refl;
     }
 
@@ -213,7 +213,7 @@ running-preserved-then-plain_by_row c =
       few = c.running.invariant.few;
       is_open = c.running.invariant.is_open;
       done = omega (arith, c.running-test.true);
-      keeps = kept_all c.args.regs.now r q c.running.invariant.keeps c.plain_by_row.ensures.keeps;
+      keeps = keeps_both c.args.regs.now r q c.running.invariant.keeps c.plain_by_row.ensures.keeps;
       place = refl;
     }
 
@@ -261,7 +261,7 @@ running-preserved c =
       few = c.running.invariant.few;
       is_open = c.running.invariant.is_open;
       done = omega (arith, c.running-test.true);
-      keeps = kept_all c.args.regs.now r q c.running.invariant.keeps c.plain_fetched.ensures.keeps;
+      keeps = keeps_both c.args.regs.now r q c.running.invariant.keeps c.plain_fetched.ensures.keeps;
       place = refl;
     }
 

@@ -1,6 +1,7 @@
 use Rattle.std.proofs.Common.{sym, ◌∙◌}
 use Rattle.std.proofs.lemmas.Bool.{eqb-true}
-use Rattle.b67_asm_text.proofs.Splitting.{format_none, when_ok}
+use Rattle.b67_list.proofs.Answered.{when_ok}
+use Rattle.b67_asm_text.proofs.Splitting.{format_none}
 use Rattle.b67_asm_text.proofs.text.read_record.Goals as goal
 
 pub returns-then-is_empty-clause-formats : goal.returns-then-is_empty-clause-formats

@@ -4,7 +4,7 @@ use Rattle.algol_tree.specs.Image as plain
 use Rattle.algol_tree.specs.Plain as tree
 use Rattle.algol_tree.specs.Plain.{PBody}
 use Rattle.algol_tree.specs.Scopes.{scopes_of}
-use Rattle.algol_scope.proofs.Bodies.{body_is}
+use Rattle.algol_tree.proofs.Images.{body_is}
 use Rattle.b67_ops.specs.declared.TheConstants.{OUTER_LEVEL}
 use Rattle.b67_segment.specs.declared.code.Code.{Code}
 use Rattle.b67_emit_text.specs.Programs.{AreDue, AreShort, Coded}

@@ -3,9 +3,10 @@ use Rattle.algol_tree.specs.Image.{program}
 use Rattle.algol_tree.specs.Scopes.{scopes_of}
 use Rattle.algol_cells.specs.SeenScope.{scoped}
 use Rattle.algol_world.specs.SeenWorld.{world_of}
+use Rattle.algol_world.proofs.Processes.{if_ok}
 use Rattle.b67_schedule.specs.Giving.{given_entries}
 use Rattle.b67_schedule.specs.Schedules.{entries}
-use Rattle.b67_console.proofs.Together.{stands_first, may_first, are_told, if_ok_each}
+use Rattle.b67_console.proofs.Together.{stands_first, may_first, are_told}
 use Rattle.b67_console.proofs.Whole.{few_entries}
 use Rattle.b67_console.proofs.texts.tell_all.Goals as goal
 
@@ -32,6 +33,6 @@ answers_of-told-requires-clause-within c = λ place here e.
 
 pub returns : goal.returns
 returns c =
-    if_ok_each c.answers_of-told.result (λ texts told.
+    if_ok c.answers_of-told.result (λ texts told.
     are_told (program c.args.checked.now.program) (scoped c.in_ok-world.world.scopes) c.args.machine.code (entries c.runs_of.result.now) (given_entries c.args.given.now)
     c.args.commands.now c.args.at.now texts.items c.in_ok-world.ensures.scopes c.runs_of.ensures told) c.answers_of-told.ensures

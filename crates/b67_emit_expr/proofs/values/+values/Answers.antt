@@ -9,13 +9,14 @@ use Rattle.algol_tree.specs.Plain as tree
 use Rattle.b67_segment.specs.declared.TheConstants.{MOST_SEGMENT_SYLLABLES}
 use Rattle.b67_segment.specs.Operators.{size}
 use Rattle.b67_segment.specs.Building.{level_set}
+use Rattle.b67_segment.proofs.Cited.{set_after}
 use Rattle.b67_templates.specs.Fragments.{IsWholeNumber, MovedAt, operator_for, truth_literal}
 use Rattle.b67_templates.specs.Emitting.{Emitted}
 use Rattle.b67_templates.specs.Paying.{mode_at, given_syllables, inline, inline_given}
 use Rattle.b67_emitter.specs.Values.{meant, meanings, filled_syllables}
 use Rattle.b67_emitter.proofs.Appends.{same_level}
 use Rattle.b67_emit_expr.proofs.Shapes.{call_long, happened_as, available_as, fix_as, wait_as, number_is, truth_is, paren_as, plus_as, neg_as, not_as, two_as, if_as}
-use Rattle.b67_emit_expr.proofs.Couples.{code_on, set_after, first_code, second_code, paren_code, plus_code, neg_code, not_code, condition_code, then_code, else_code}
+use Rattle.b67_emit_expr.proofs.Couples.{code_on, first_code, second_code, paren_code, plus_code, neg_code, not_code, condition_code, then_code, else_code}
 use Rattle.b67_emit_expr.proofs.Forms.{listed_as, plain_as, number_form, truth_form, moved_form, paren_form, plus_form, neg_form, not_form, applied_form, exits_aimed, operands_form, calculated_form, chosen_form}
 use Rattle.b67_emit_expr.proofs.Listed.{nowhere, list_grown, exits_lie, exits_back, hole_lies}
 use Rattle.b67_emit_expr.proofs.Called.{known_call, seen_call, call_syllables, rest_syllables, call_on, begin_left, next_is, next_tokens, next_syllables, next_wanted, next_one, filled_form, called_form}

@@ -4,11 +4,12 @@ use Rattle.std.proofs.lemmas.Result.{on_ok_weaker}
 use Rattle.algol_tree.specs.declared.tree.Expr.{Expr}
 use Rattle.algol_tree.specs.Image.{expr, exprs}
 use Rattle.algol_tree.specs.Plain.{PCall}
+use Rattle.algol_tree.proofs.Images.{call_is}
 use Rattle.b67_templates.specs.Paying.{if_known, modes_of}
 use Rattle.b67_emitter.specs.Values.{meanings, meant}
+use Rattle.algol_known.proofs.Plain.{expr_if, expr_two}
 use Rattle.b67_emit_stmt.specs.Actuals.{images, celled, cells_in_actual, cells_among, cells_in_call, cells_given}
-use Rattle.b67_emit_stmt.proofs.Gathered.{carried, given_next, next_part, joined, two_as, if_as}
-use Rattle.b67_emit_stmt.proofs.Shapes.{call_is}
+use Rattle.b67_emit_stmt.proofs.Gathered.{carried, given_next, next_part, joined}
 use Rattle.b67_emit_stmt.proofs.actuals.+actuals.Goals as goal
 
 pub in_expr-returns-in_ok-in_expr-in-Two : goal.in_expr-returns-in_ok-in_expr-in-Two
@@ -19,7 +20,7 @@ in_expr-returns-in_ok-in_expr-in-Two t c =
     let w = c.in-Two in
     on_ok_weaker c.in_expr-in-Two-2.result
     (joined (images c.args.to.now.items) (images c.in_expr-in-Two.new.to.items) (images c.in_expr-in-Two-2.new.to.items) (cells_in_actual told (expr a)) (cells_in_actual told (expr b)) (cells_in_actual told (expr c.args.e.now))
-    (ap (cells_in_actual told) (two_as c.args.e.now w.field-0 w.a w.b a b w.is c.deref-in-Two.ensures c.deref-in-Two-2.ensures)) c.in_ok-in_expr-in-Two.ensures)
+    (ap (cells_in_actual told) (expr_two c.args.e.now w.field-0 w.a w.b a b w.is c.deref-in-Two.ensures c.deref-in-Two-2.ensures)) c.in_ok-in_expr-in-Two.ensures)
     c.in_expr-in-Two-2.ensures
 
 pub in_expr-returns-in_ok-in_expr-in-If-2 : goal.in_expr-returns-in_ok-in_expr-in-If-2
@@ -34,7 +35,7 @@ in_expr-returns-in_ok-in_expr-in-If-2 t c =
     let second = images c.in_expr-in-If-2.new.to.items in
     on_ok_weaker c.in_expr-in-If-3.result
     (joined old second (images c.in_expr-in-If-3.new.to.items) (cells_in_actual told (expr k) ++ cells_in_actual told (expr x)) (cells_in_actual told (expr y)) (cells_in_actual told (expr c.args.e.now))
-    (ap (cells_in_actual told) (if_as c.args.e.now w.c w.x w.y w.field-3 k x y w.is c.deref-in-If.ensures c.deref-in-If-2.ensures c.deref-in-If-3.ensures))
+    (ap (cells_in_actual told) (expr_if c.args.e.now w.c w.x w.y w.field-3 k x y w.is c.deref-in-If.ensures c.deref-in-If-2.ensures c.deref-in-If-3.ensures))
     (joined old first second (cells_in_actual told (expr k)) (cells_in_actual told (expr x)) (cells_in_actual told (expr k) ++ cells_in_actual told (expr x)) refl c.in_ok-in_expr-in-If.ensures c.in_ok-in_expr-in-If-2.ensures))
     c.in_expr-in-If-3.ensures
 

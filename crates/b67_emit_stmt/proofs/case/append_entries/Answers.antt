@@ -4,9 +4,10 @@ use Rattle.b67_ops.specs.declared.BranchKind.TheVariants.{Brun}
 use Rattle.b67_ops.specs.Spelling.{spelling}
 use Rattle.b67_segment.specs.Operators.{size}
 use Rattle.b67_segment.specs.Building.{level_set}
+use Rattle.b67_segment.proofs.Cited.{set_after}
+use Rattle.b67_emitter.proofs.Appends.{same_level}
 use Rattle.b67_emit_stmt.specs.Cases.{EntriesAt}
-use Rattle.b67_emit_stmt.proofs.Drafts.{level_same}
-use Rattle.b67_emit_stmt.proofs.Parts.{emitted_none, set_same}
+use Rattle.b67_emit_stmt.proofs.Parts.{emitted_none}
 use Rattle.b67_emit_stmt.proofs.Tables.{entries_next, entries_whole}
 use Rattle.b67_emit_stmt.proofs.case.append_entries.Goals as goal
 
@@ -21,7 +22,7 @@ entries-init c =
     }
 
 pub append_operator-requires-clause-set : goal.append_operator-requires-clause-set
-append_operator-requires-clause-set c = set_same c.args.out.now c.entries.out c.entries.invariant.level c.requires.set
+append_operator-requires-clause-set c = set_after c.args.out.now c.entries.out c.entries.invariant.level c.requires.set
 
 pub append_operator-requires-clause-room : goal.append_operator-requires-clause-room
 append_operator-requires-clause-room c =
@@ -40,7 +41,7 @@ entries-preserved c =
       within = omega (arith, c.entries-test.true);
       level = c.in_ok-append_operator.ensures.level ∙ c.entries.invariant.level;
       wide = omega (arith, wide, c.entries.invariant.wide);
-      code = entries_next (level_set a) c.entries.counter a b d (level_same a b c.entries.invariant.level) c.entries.invariant.code c.in_ok-append_operator.ensures.code wide;
+      code = entries_next (level_set a) c.entries.counter a b d (same_level a b c.entries.invariant.level) c.entries.invariant.code c.in_ok-append_operator.ensures.code wide;
     }
 
 pub returns-clause-code : goal.returns-clause-code

@@ -3,10 +3,11 @@ use Rattle.std.specs.Prelude.{replicate}
 use Rattle.b67_ops.specs.declared.PlainKind.TheVariants as kinds
 use Rattle.b67_segment.specs.Operators.{size}
 use Rattle.b67_segment.specs.Building.{level_set}
+use Rattle.b67_segment.proofs.Cited.{set_after}
 use Rattle.b67_templates.specs.Fragments.{AllAt}
 use Rattle.b67_templates.specs.Emitting.{Emitted}
-use Rattle.b67_emit_stmt.proofs.Drafts.{level_same}
-use Rattle.b67_emit_stmt.proofs.Parts.{emitted_none, plain_at, set_same}
+use Rattle.b67_emitter.proofs.Appends.{same_level}
+use Rattle.b67_emit_stmt.proofs.Parts.{emitted_none, plain_at}
 use Rattle.b67_emit_stmt.proofs.Zeros.{zeros_next}
 use Rattle.b67_emit_stmt.proofs.cells.append_zeros.Goals as goal
 
@@ -21,7 +22,7 @@ zeros-init c =
     }
 
 pub append_plain-requires-clause-set : goal.append_plain-requires-clause-set
-append_plain-requires-clause-set c = set_same c.args.out.now c.zeros.out c.zeros.invariant.level c.requires.set
+append_plain-requires-clause-set c = set_after c.args.out.now c.zeros.out c.zeros.invariant.level c.requires.set
 
 pub append_plain-requires-clause-room : goal.append_plain-requires-clause-room
 append_plain-requires-clause-room c = omega (arith, c.zeros-test.true, c.zeros.invariant.wide, c.requires.room)
@@ -35,7 +36,7 @@ zeros-preserved c =
       within = omega (arith, c.zeros-test.true);
       level = c.in_ok-append_plain.ensures.level ∙ c.zeros.invariant.level;
       wide = omega (arith, c.in_ok-append_plain.ensures.size, c.zeros.invariant.wide);
-      code = zeros_next (level_set a) c.zeros.counter a b d c.zeros.invariant.code (plain_at kinds.Zero (level_set a) (level_same a b c.zeros.invariant.level) c.in_ok-append_plain.ensures.code);
+      code = zeros_next (level_set a) c.zeros.counter a b d c.zeros.invariant.code (plain_at kinds.Zero (level_set a) (same_level a b c.zeros.invariant.level) c.in_ok-append_plain.ensures.code);
     }
 
 pub returns-clause-code : goal.returns-clause-code

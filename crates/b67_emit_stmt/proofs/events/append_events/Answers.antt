@@ -3,10 +3,11 @@ use Rattle.b67_ops.specs.declared.PlainKind.TheVariants as kinds
 use Rattle.b67_ops.specs.declared.intrinsic.Intrinsic.TheVariants.{Event}
 use Rattle.b67_segment.specs.Operators.{size}
 use Rattle.b67_segment.specs.Building.{level_set}
+use Rattle.b67_segment.proofs.Cited.{set_after}
 use Rattle.b67_templates.specs.Fragments.{AllAt, IntrinsicAt}
-use Rattle.b67_emit_stmt.proofs.Drafts.{level_same}
+use Rattle.b67_emitter.proofs.Appends.{same_level}
 use Rattle.b67_emit_stmt.proofs.Eventful.{events_more, none_made}
-use Rattle.b67_emit_stmt.proofs.Parts.{leveled, set_same}
+use Rattle.b67_emit_stmt.proofs.Parts.{leveled}
 use Rattle.b67_emit_stmt.proofs.events.append_events.Goals as goal
 
 pub events-init : goal.events-init
@@ -22,7 +23,7 @@ events-init c =
 pub append_intrinsic-requires : goal.append_intrinsic-requires
 append_intrinsic-requires c =
     record {
-      set = set_same c.args.out.now c.events.out c.events.invariant.level c.requires.set;
+      set = set_after c.args.out.now c.events.out c.events.invariant.level c.requires.set;
       room = omega (arith, c.events-test.true, c.events.invariant.wide, c.requires.room);
     }
 
@@ -36,7 +37,7 @@ events-preserved c =
     let d = c.append_intrinsic.new.out in
     let e = c.append_all.new.out in
     let level = level_set a in
-    let q = level_same a b c.events.invariant.level in
+    let q = same_level a b c.events.invariant.level in
     let first = c.in_ok-append_intrinsic.ensures in
     let last = c.in_ok-append_all.ensures in
     record {
@@ -46,7 +47,7 @@ events-preserved c =
       code = λ sc later ns count.
           events_more sc later level a b d e c.events.counter (c.events.invariant.code sc later)
           (leveled (λ l qs. IntrinsicAt qs l Event (size b.operators) (size d.operators)) level q first.code)
-          (leveled (λ l qs. AllAt qs l (kinds.Entr ∷ kinds.Push ∷ []) (size d.operators) (size e.operators)) level (level_same b d first.level ∙ q) last.code) ns count;
+          (leveled (λ l qs. AllAt qs l (kinds.Entr ∷ kinds.Push ∷ []) (size d.operators) (size e.operators)) level (same_level b d first.level ∙ q) last.code) ns count;
     }
 
 pub returns-clause-code : goal.returns-clause-code

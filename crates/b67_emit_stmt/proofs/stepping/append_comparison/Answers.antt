@@ -4,8 +4,9 @@ use Rattle.b67_ops.specs.declared.BranchKind.TheVariants.{Brtr}
 use Rattle.b67_segment.specs.Building.{level_set}
 use Rattle.b67_segment.specs.Operators.{size}
 use Rattle.b67_templates.specs.Fragments.{BranchAt}
+use Rattle.b67_emitter.proofs.Appends.{same_level}
 use Rattle.b67_emit_stmt.specs.declared.draft.Draft.{Draft}
-use Rattle.b67_emit_stmt.proofs.Drafts.{at_level, exit_piece, level_same, piece}
+use Rattle.b67_emit_stmt.proofs.Drafts.{at_level, exit_piece, piece}
 use Rattle.b67_emit_stmt.proofs.Parts.{on_ok_two}
 use Rattle.b67_emit_stmt.proofs.Steps.{comparison_part}
 use Rattle.b67_emit_stmt.proofs.stepping.append_comparison.Goals as goal
@@ -19,7 +20,7 @@ returns-clause-code c =
     (λ h wide.
     comparison_part (level_set a.out) a b d c.args.kind
     (piece {n = 2} {d = a} {e = b} refl refl c.requires.few (λ later. c.in_ok-append_all.ensures.code) (omega (arith, c.in_ok-append_all.ensures.size)))
-    (at_level (level_set a.out) (λ l later qs target. BranchAt qs l Brtr (size b.out.operators) target (size d.out.operators)) (level_same a.out b.out c.in_ok-append_all.ensures.level)
+    (at_level (level_set a.out) (λ l later qs target. BranchAt qs l Brtr (size b.out.operators) target (size d.out.operators)) (same_level a.out b.out c.in_ok-append_all.ensures.level)
     (exit_piece {n = 3} {d = b} {e = d} refl (omega (arith, c.requires.few, c.in_ok-append_all.ensures.size)) h (omega (arith, wide)))))
     c.append_exit.ensures.code c.append_exit.ensures.size
 

@@ -8,8 +8,9 @@ use Rattle.algol_tree.specs.declared.tree.Stmt.{Stmt}
 use Rattle.algol_tree.specs.Image.{decls, expr, exprs, stmt, stmts, variable}
 use Rattle.algol_tree.specs.Plain as tree
 use Rattle.b67_emit_stmt.proofs.Gathered.{case_as, if_then_as, thru_as, until_as, while_as}
-use Rattle.b67_emit_stmt.proofs.Shapes.{assign_as, call_as, empty_as, event_as, for_as, go_to_as, label_as, process_as, write_as}
+use Rattle.b67_emit_stmt.proofs.Shapes.{assign_as, call_as, event_as, for_as, go_to_as, label_as, process_as, write_as}
 use Rattle.b67_templates.specs.Labels.{labels_in}
+use Rattle.algol_scope.proofs.Bodies.{empty_read}
 use Rattle.b67_emit_text.specs.Entries.{AllLow, entries_in_stmt, entries_in_stmts, entries_of, entry_of, own_entries}
 use Rattle.b67_emit_text.proofs.Entered.{both_entries, both_low, carried, compound_entries, compound_low, entries_as, entries_none, first_low, inner_entries, inner_low, joined, low_as}
 use Rattle.b67_emit_text.proofs.entries.+entries.Goals as goal
@@ -151,7 +152,7 @@ within-returns-in-None t c =
 pub within-returns-in-Empty : goal.within-returns-in-Empty
 within-returns-in-Empty t c =
     let w = c.in-Empty in
-    entries_none c.args.level (stmt c.args.s.now) (tree.empty) (empty_as c.args.s.now w.is) refl (map entry_of c.args.to.now.items)
+    entries_none c.args.level (stmt c.args.s.now) (tree.empty) (empty_read c.args.s.now w.is) refl (map entry_of c.args.to.now.items)
 
 pub within-returns-in-Assign : goal.within-returns-in-Assign
 within-returns-in-Assign t c =

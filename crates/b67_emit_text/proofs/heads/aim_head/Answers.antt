@@ -1,9 +1,10 @@
 use Rattle.std.proofs.Common.{◌≡◌, ◌∙◌, ℕ, suc, ◌+◌, ◌∷◌, drop, map, refl, sym, ap, subst, arith}
 use Rattle.std.proofs.lemmas.List.{drop_more, length-map}
 use Rattle.b67_segment.specs.Building.{Built}
+use Rattle.b67_list.proofs.Answered.{no_limit}
 use Rattle.b67_emit_text.specs.declared.entries.Declared.{Declared}
 use Rattle.b67_emit_text.specs.Entries.{entry_of}
-use Rattle.b67_emit_text.proofs.Tables.{Midway, branch_there, is_none, midway_aimed, midway_first, midway_last, midway_same, next_entry}
+use Rattle.b67_emit_text.proofs.Tables.{Midway, branch_there, midway_aimed, midway_first, midway_last, midway_same, next_entry}
 use Rattle.b67_emit_text.proofs.heads.aim_head.Goals.{in-Some, in_default}
 use Rattle.b67_emit_text.proofs.heads.aim_head.Goals as goal
 
@@ -43,7 +44,7 @@ entries-preserved c =
             subst (λ n. M n c.match-leads.out) more
             (subst (M (suc i)) (sym w.out-is)
             (midway_same (map entry_of es) i c.args.begin c.args.labels.now (entry_of e) (map entry_of (drop (i + 1) es)) there a c.entries.out c.entries.invariant.midway
-            (sym c.leads.ensures ∙ is_none c.leads.result w.in_default.not-Some)))
+            (sym c.leads.ensures ∙ no_limit c.leads.result w.in_default.not-Some)))
       ];
     }
 

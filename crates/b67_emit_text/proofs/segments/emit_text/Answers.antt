@@ -1,6 +1,6 @@
 use Rattle.std.proofs.Common.{◌∙◌, refl, arith}
 use Rattle.algol_tree.specs.Image.{decls, stmts}
-use Rattle.b67_segment.proofs.Filling.{words-few}
+use Rattle.b67_segment.proofs.Filling.{words_few}
 use Rattle.b67_emit_stmt.specs.declared.draft.Draft.{Draft}
 use Rattle.b67_emit_text.specs.Codes.{segment_syllables}
 use Rattle.b67_emit_text.proofs.TextSegments.{at_new, few_after, is_new, listed_after, ready_new, short_after, text_stands}
@@ -66,7 +66,7 @@ returns-clause-short g c =
     let a : Draft = record { out = c.level.new.self; exits = c.new-2.result; formats = c.args.formats; labels = c.new-3.result } in
     let new = is_new level c.args.formats.items c.new.result a c.new.ensures c.in_ok-level.ensures.ok c.new-2.ensures.items refl c.new-3.ensures.items in
     let short = short_after s level c.args.formats.items c.args.returned ds ss a c.text_whole.new.to new c.in_ok-text_whole.ensures.code c.requires.fits in
-    omega (arith, short, words-few c.text_whole.new.to.out.operators c.in_ok-finish.field-0 c.in_ok-finish.ensures)
+    omega (arith, short, words_few c.text_whole.new.to.out.operators c.in_ok-finish.field-0 c.in_ok-finish.ensures)
 
 pub returns-clause-lines : goal.returns-clause-lines
 returns-clause-lines g c = c.in_ok-text_whole.ensures.lines.formats

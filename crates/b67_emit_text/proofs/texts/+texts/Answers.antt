@@ -10,7 +10,8 @@ use Rattle.algol_tree.specs.declared.tree.Stmt.{Stmt}
 use Rattle.algol_tree.specs.Image.{decl, decls, expr, exprs, stmt, stmts, variable}
 use Rattle.algol_tree.specs.Plain as tree
 use Rattle.b67_emit_stmt.proofs.Gathered.{case_as, if_then_as, thru_as, until_as, while_as}
-use Rattle.b67_emit_stmt.proofs.Shapes.{assign_as, call_as, empty_as, event_as, for_as, go_to_as, label_as, process_as, write_as}
+use Rattle.b67_emit_stmt.proofs.Shapes.{assign_as, call_as, event_as, for_as, go_to_as, label_as, process_as, write_as}
+use Rattle.algol_scope.proofs.Bodies.{empty_read}
 use Rattle.b67_emit_text.specs.Texts.{HaveLevelsDecls, HaveLevelsStmts, text_of_procedure, texts_in_decl, texts_in_decls, texts_in_stmts, texts_of}
 use Rattle.b67_emit_text.proofs.Walks.{block_has, block_low, body_texts, both_have, carried, compound_has, declared_there, decls_have, first_has, levels_as, no_texts, other_has, other_texts, own_has, own_texts, procedure_has, pushed_there, stmts_have, texts_as, texts_both, texts_more, texts_none, texts_same}
 use Rattle.b67_emit_text.proofs.texts.+texts.Goals as goal
@@ -131,7 +132,7 @@ within-returns-in-None t c =
 pub within-returns-in-Empty : goal.within-returns-in-Empty
 within-returns-in-Empty t c =
     let w = c.in-Empty in
-    texts_none (stmt c.args.s.now) (tree.empty) c.args.level (empty_as c.args.s.now w.is) refl (map text_of_procedure c.args.to.now.items)
+    texts_none (stmt c.args.s.now) (tree.empty) c.args.level (empty_read c.args.s.now w.is) refl (map text_of_procedure c.args.to.now.items)
 
 pub within-returns-in-Assign : goal.within-returns-in-Assign
 within-returns-in-Assign t c =

@@ -2,7 +2,7 @@ use Rattle.std.proofs.Common.{◌+◌, not, sym, ap, ◌∙◌, arith}
 use Rattle.std.specs.Prelude.{filter}
 use Rattle.b67_events.specs.Kept.{stands_in, rank_at, below, is_ranked}
 use Rattle.b67_events.specs.declared.Queue.TheVariants.{Waiters}
-use Rattle.b67_events.proofs.Order.{filter-low, ranks_of_list}
+use Rattle.b67_events.proofs.Order.{filter_low, ranks_of_list}
 use Rattle.b67_events.proofs.queues.dismiss.Goals as goal
 
 pub cut-requires-clause-known : goal.cut-requires-clause-known
@@ -15,4 +15,4 @@ returns-clause-kept c =
     let r = rank_at Waiters at in
     c.cut.ensures.kept
     ∙ ap (λ n. filter (λ w. not (is_ranked n (n + 1) w)) ws) c.rank_at-from.ensures
-    ∙ filter-low (λ w. not (is_ranked r (r + 1) w)) (λ w. not (stands_in Waiters at w)) (λ w low. ap not (ranks_of_list at w (omega (arith, c.well_formed)) low)) ws c.requires.order
+    ∙ filter_low (λ w. not (is_ranked r (r + 1) w)) (λ w. not (stands_in Waiters at w)) (λ w low. ap not (ranks_of_list at w (omega (arith, c.well_formed)) low)) ws c.requires.order

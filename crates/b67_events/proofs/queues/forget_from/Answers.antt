@@ -1,12 +1,10 @@
-use Rattle.std.proofs.Common.{ℕ, ◌+◌, ◌*◌, ◌<◌, ◌≤◌, not, sym, ap, ◌∙◌, arith}
+use Rattle.std.proofs.Common.{◌+◌, ◌*◌, not, sym, ap, ◌∙◌, arith}
 use Rattle.std.specs.Prelude.{filter}
+use Rattle.b67_list.proofs.Numbers.{not_less}
 use Rattle.b67_events.specs.Events.{is_from}
 use Rattle.b67_events.specs.Kept.{is_ranked}
-use Rattle.b67_events.proofs.Order.{filter-low, ranks_of_stack, none_as_high}
+use Rattle.b67_events.proofs.Order.{filter_low, ranks_of_stack, none_as_high}
 use Rattle.b67_events.proofs.queues.forget_from.Goals as goal
-
-not_less : (a b : ℕ) → (a < b → ⊥) → b ≤ a
-not_less a b h = omega (arith, h)
 
 pub returns-in_default-clause-kept : goal.returns-in_default-clause-kept
 returns-in_default-clause-kept c =
@@ -21,6 +19,6 @@ returns-clause-kept c =
     c.cut.ensures.kept
     ∙ ap (λ n. filter (λ w. not (is_ranked n ((c.from.result + 1) * 131072) w)) ws) c.rank_at-from.ensures
     ∙ ap (λ n. filter (λ w. not (is_ranked f ((n + 1) * 131072) w)) ws) c.from.ensures
-    ∙ filter-low (λ w. not (is_ranked f ((stack + 1) * 131072) w)) (λ w. not (is_from stack at w.place))
+    ∙ filter_low (λ w. not (is_ranked f ((stack + 1) * 131072) w)) (λ w. not (is_from stack at w.place))
     (λ w low. ap not (ranks_of_stack stack at w (omega (arith, c.in-Ok.ensures)) low)) ws c.requires
     ∙ ap (λ n. filter (λ w. not (is_from stack n w.place)) ws) c.in-Ok.ensures.1

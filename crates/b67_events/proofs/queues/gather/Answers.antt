@@ -2,7 +2,7 @@ use Rattle.std.proofs.Common.{◌≡◌, ◌<◌, false, [], ◌++◌, length, m
 use Rattle.std.proofs.lemmas.List.{append-nil}
 use Rattle.b67_events.specs.Kept.{stands_in, waiters_listed, rank_at, below}
 use Rattle.b67_events.specs.declared.Queue.TheVariants.{Waiters}
-use Rattle.b67_events.proofs.Order.{listed-from, none_from, none_higher}
+use Rattle.b67_events.proofs.Order.{listed_from, none_from, none_higher}
 use Rattle.b67_events.proofs.queues.gather.Goals as goal
 
 pub waiting-init : goal.waiting-init
@@ -11,7 +11,7 @@ waiting-init c =
     let at = c.args.at in
     let place : c.below-from.result ≡ below (rank_at Waiters at) ws = c.below-from.ensures ∙ ap (λ r. below r ws) c.rank_at.ensures in
     let same : waiters_listed Waiters at (drop c.below-from.result ws) ≡ waiters_listed Waiters at ws =
-    ap (λ i. waiters_listed Waiters at (drop i ws)) place ∙ ap (map (λ w. w.process)) (listed-from Waiters at ws) in
+    ap (λ i. waiters_listed Waiters at (drop i ws)) place ∙ ap (map (λ w. w.process)) (listed_from Waiters at ws) in
     record {
       from = omega (arith, place);
       woken = ap (λ ps. c.args.woken.now.items ++ ps) same;

@@ -3,9 +3,9 @@ use Rattle.std.proofs.lemmas.List.{drop_more}
 use Rattle.b67_word.specs.declared.Place.{Place}
 use Rattle.b67_events.specs.Events.{event_is_among}
 use Rattle.b67_events.specs.Kept.{joiners, stand_all}
-use Rattle.b67_events.proofs.Joined.{one, joiners-again, joiners-new}
-use Rattle.b67_events.proofs.Order.{order-stand}
-use Rattle.b67_events.proofs.Stood.{length-stand}
+use Rattle.b67_events.proofs.Joined.{one, joiners_again, joiners_new}
+use Rattle.b67_events.proofs.Order.{order_stand}
+use Rattle.b67_events.proofs.Stood.{length_stand}
 use Rattle.b67_events.proofs.queues.join_all.Goals.{then-not-is_among, else-not-is_among}
 use Rattle.b67_events.proofs.queues.join_all.Goals as goal
 
@@ -23,10 +23,10 @@ joining-preserved c =
     elim c.if-not-is_among.branch [
       | then-not-is_among w ↦
           let fresh : event_is_among (take i places) (get_or places i d) ≡ false = sym c.is_among.ensures ∙ w.if-not-is_among.true in
-          let count : length w.enqueue.new.waiting.items ≡ length ws + 1 = ap length w.enqueue.ensures.items ∙ length-stand (one p (get_or places i d)) ws in
+          let count : length w.enqueue.new.waiting.items ≡ length ws + 1 = ap length w.enqueue.ensures.items ∙ length_stand (one p (get_or places i d)) ws in
           record {
-            order = rw (w.waiting-is, w.enqueue.ensures.items) (order-stand (one p (get_or places i d)) ws (c.requires.low i d short) inv.order);
-            waiting = rw (w.waiting-is, w.enqueue.ensures.items) (ap (λ js. stand_all js ws) (sym (joiners-new p i places d short fresh)) ∙ inv.waiting);
+            order = rw (w.waiting-is, w.enqueue.ensures.items) (order_stand (one p (get_or places i d)) ws (c.requires.low i d short) inv.order);
+            waiting = rw (w.waiting-is, w.enqueue.ensures.items) (ap (λ js. stand_all js ws) (sym (joiners_new p i places d short fresh)) ∙ inv.waiting);
             room = rw w.waiting-is (omega (arith, count, fewer, inv.room, w.enqueue.ensures.capacity));
             capacity = rw w.waiting-is (omega (arith, inv.capacity, w.enqueue.ensures.capacity));
           }
@@ -34,7 +34,7 @@ joining-preserved c =
           let seen : event_is_among (take i places) (get_or places i d) ≡ true = sym c.is_among.ensures ∙ w.if-not-is_among.false in
           record {
             order = rw w.waiting-is inv.order;
-            waiting = rw w.waiting-is (ap (λ js. stand_all js ws) (sym (joiners-again p i places d short seen)) ∙ inv.waiting);
+            waiting = rw w.waiting-is (ap (λ js. stand_all js ws) (sym (joiners_again p i places d short seen)) ∙ inv.waiting);
             room = rw w.waiting-is (omega (arith, fewer, inv.room));
             capacity = rw w.waiting-is inv.capacity;
           }

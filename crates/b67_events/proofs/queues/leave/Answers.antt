@@ -6,7 +6,7 @@ use Rattle.b67_events.specs.Kept.{stands_in, is_same, without_first, rank_of, ra
 use Rattle.b67_events.specs.declared.Queue.TheVariants.{Waiters}
 use Rattle.b67_events.specs.declared.Waiting.{Waiting}
 use Rattle.b67_events.proofs.Joined.{one}
-use Rattle.b67_events.proofs.Order.{rank_by_stand, first-from, none_from, none-first}
+use Rattle.b67_events.proofs.Order.{rank_by_stand, first_from, none_from, none_first}
 use Rattle.b67_events.proofs.queues.leave.Goals as goal
 
 -- who is the same has the rank of the list
@@ -24,7 +24,7 @@ leaving-init c =
     record {
       same = refl;
       from = omega (arith, place);
-      rest = first-from u r (ranked p at) ws ∙ ap (λ i. take i ws ++ without_first u (drop i ws)) (sym place);
+      rest = first_from u r (ranked p at) ws ∙ ap (λ i. take i ws ++ without_first u (drop i ws)) (sym place);
     }
 
 pub returns-then-not-is_in-clause-rest : goal.returns-then-not-is_in-clause-rest
@@ -39,5 +39,5 @@ returns-then-not-is_in-clause-rest c =
     let order : AreInOrder vs = subst AreInOrder (sym inv.same) c.requires in
     let short : i < length vs = omega (arith, ap length inv.same, c.leaving-test.true, c.len-index-end.ensures, c.args.waiting.now.ok) in
     let out : stands_in Waiters at c.index.result.now ≡ false = sym c.is_in.ensures ∙ c.if-not-is_in.true in
-    let none = none-first u r (ranked p at) (drop i vs) (none_from Waiters at i vs c.index.result.now (omega (arith, c.well_formed)) order inv.from short c.index.ensures out) in
+    let none = none_first u r (ranked p at) (drop i vs) (none_from Waiters at i vs c.index.result.now (omega (arith, c.well_formed)) order inv.from short c.index.ensures out) in
     sym (inv.rest ∙ ap (λ ys. take i vs ++ ys) none ∙ take-append-drop i vs) ∙ ap (without_first u) inv.same

@@ -4,8 +4,8 @@ use Rattle.std.proofs.lemmas.List.{drop_more, drop_all}
 use Rattle.b67_word.specs.declared.Place.{Place}
 use Rattle.b67_events.specs.Kept.{is_same, is_left}
 use Rattle.b67_events.proofs.Joined.{one}
-use Rattle.b67_events.proofs.Order.{order-first}
-use Rattle.b67_events.proofs.Leaving.{leave-step, once-left, left-none}
+use Rattle.b67_events.proofs.Order.{order_first}
+use Rattle.b67_events.proofs.Leaving.{leave_step, once_left, left_none}
 use Rattle.b67_events.proofs.queues.leave_all.Goals as goal
 
 pub leaving-preserved : goal.leaving-preserved
@@ -19,10 +19,10 @@ leaving-preserved c =
     let ws = c.leaving.waiting.items in
     let inv = c.leaving.invariant in
     record {
-      order = rw c.leave.ensures.rest (order-first (is_same (one p x)) ws inv.order);
-      once = rw c.leave.ensures.rest (once-left p x ws inv.once);
+      order = rw c.leave.ensures.rest (order_first (is_same (one p x)) ws inv.order);
+      once = rw c.leave.ensures.rest (once_left p x ws inv.once);
       kept = rw c.leave.ensures.rest
-          (leave-step p x (drop (i + 1) places) ws inv.once ∙ ap (λ l. filter (λ w. not (is_left p l w)) ws) (sym (drop_more places i d short)) ∙ inv.kept);
+          (leave_step p x (drop (i + 1) places) ws inv.once ∙ ap (λ l. filter (λ w. not (is_left p l w)) ws) (sym (drop_more places i d short)) ∙ inv.kept);
       capacity = omega (arith, inv.capacity, c.leave.ensures.capacity);
     }
 
@@ -31,4 +31,4 @@ returns-clause-kept c =
     let places = c.args.places.now in
     let i = c.leaving.index in
     let past : length places ≤ i = omega (arith, c.leaving-test.false) in
-    sym (left-none c.args.process (drop i places) c.leaving.waiting.items (drop_all i places past)) ∙ c.leaving.invariant.kept
+    sym (left_none c.args.process (drop i places) c.leaving.waiting.items (drop_all i places past)) ∙ c.leaving.invariant.kept

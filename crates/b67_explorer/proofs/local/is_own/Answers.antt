@@ -3,14 +3,14 @@ use Rattle.b67_list.specs.Numbered.{numbered}
 use Rattle.b67_segment.specs.declared.code.Code.{Code}
 use Rattle.b67_private.specs.Parts.{PlainParts}
 use Rattle.b67_table.proofs.Waking.{able_live}
-use Rattle.b67_explorer.proofs.Performed.{is_able_there}
+use Rattle.b67_table.proofs.Cited.{may_able}
 use Rattle.b67_explorer.proofs.Owned.{local_by}
 use Rattle.b67_explorer.proofs.local.is_own.Goals as goal
 
 pub copy_private-requires : goal.copy_private-requires
 copy_private-requires g c =
     let img = c.args.machine.now.image in
-    record { lives = able_live (numbered img.states c.args.process) (is_able_there img c.args.process c.requires.may) }
+    record { lives = able_live (numbered img.states c.args.process) (may_able img c.args.process c.requires.may) }
 
 pub returns : goal.returns
 returns g c = λ t.

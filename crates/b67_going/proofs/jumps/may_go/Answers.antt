@@ -10,8 +10,9 @@ use Rattle.b67_table.specs.Program.{asked}
 use Rattle.b67_table.specs.Questions.{live_criticals}
 use Rattle.b67_linkage.specs.Leaving.{Cutting}
 use Rattle.b67_reach.specs.Answers.{looked}
+use Rattle.b67_reach.proofs.Looking.{looked_ok}
 use Rattle.b67_going.specs.Targets.{tabled, route}
-use Rattle.b67_going.proofs.Gone.{is_broken, is_passed, found_of, way_broken, display_broken, other_stack, critical_left, way_open, routes_exit, cut_of, same_cutting, ends_lower}
+use Rattle.b67_going.proofs.Gone.{is_broken, is_passed, way_broken, display_broken, other_stack, critical_left, way_open, routes_exit, cut_of, same_cutting, ends_lower}
 use Rattle.b67_going.proofs.jumps.may_go.Goals as goal
 
 pub returns-in_err-critical-clause-routes : goal.returns-in_err-critical-clause-routes
@@ -44,7 +45,7 @@ returns-then-target-regs-clause-routes g c = λ img s e u p next.
     let places = live_criticals c.args.states.now c.args.all.now in
     let way = is_passed st places r t.frame c.in_ok-critical.critical c.in_ok-critical.ensures in
     let is : look_seen img.stacks (passed_by r t.frame) ≡ Ok way.passing = ap (λ (z : Stacks). look_seen z (passed_by r t.frame)) s ∙ way.is in
-    let shape : look_seen st (rebuilt t.frame t.level) ≡ Ok c.in_ok-display_of.field-0 = found_of (look_seen st (rebuilt t.frame t.level)) c.in_ok-display_of.field-0 c.in_ok-display_of.ensures in
+    let shape : look_seen st (rebuilt t.frame t.level) ≡ Ok c.in_ok-display_of.field-0 = looked_ok (look_seen st (rebuilt t.frame t.level)) c.in_ok-display_of.field-0 c.in_ok-display_of.ensures in
     let has : look_seen img.stacks (rebuilt t.frame t.level) ≡ Ok c.in_ok-display_of.field-0 = ap (λ (z : Stacks). look_seen z (rebuilt t.frame t.level)) s ∙ shape in
     other_stack img r t p next way.passing is c.in_ok-display_of.field-0 has c.if-target-regs.true
 
@@ -56,7 +57,7 @@ returns-then-critical-clause-routes g c = λ img s e u p next.
     let places = live_criticals c.args.states.now c.args.all.now in
     let way = is_passed st places r t.frame c.in_ok-critical.critical c.in_ok-critical.ensures in
     let is : look_seen img.stacks (passed_by r t.frame) ≡ Ok way.passing = ap (λ (z : Stacks). look_seen z (passed_by r t.frame)) s ∙ way.is in
-    let shape : look_seen st (rebuilt t.frame t.level) ≡ Ok c.in_ok-display_of.field-0 = found_of (look_seen st (rebuilt t.frame t.level)) c.in_ok-display_of.field-0 c.in_ok-display_of.ensures in
+    let shape : look_seen st (rebuilt t.frame t.level) ≡ Ok c.in_ok-display_of.field-0 = looked_ok (look_seen st (rebuilt t.frame t.level)) c.in_ok-display_of.field-0 c.in_ok-display_of.ensures in
     let has : look_seen img.stacks (rebuilt t.frame t.level) ≡ Ok c.in_ok-display_of.field-0 = ap (λ (z : Stacks). look_seen z (rebuilt t.frame t.level)) s ∙ shape in
     let critical : is_critical r.stack (passed_frames way.passing.frames) (live_criticals img.states img.regs) ≡ c.in_ok-critical.critical =
     ap (λ (z : List ProcessState). is_critical r.stack (passed_frames way.passing.frames) (live_criticals z img.regs)) e
@@ -71,7 +72,7 @@ returns-clause-routes g c = λ img s e u k cut next.
     let places = live_criticals c.args.states.now c.args.all.now in
     let way = is_passed st places r t.frame c.in_ok-critical.critical c.in_ok-critical.ensures in
     let is : look_seen img.stacks (passed_by r t.frame) ≡ Ok way.passing = ap (λ (z : Stacks). look_seen z (passed_by r t.frame)) s ∙ way.is in
-    let shape : look_seen st (rebuilt t.frame t.level) ≡ Ok c.in_ok-display_of.field-0 = found_of (look_seen st (rebuilt t.frame t.level)) c.in_ok-display_of.field-0 c.in_ok-display_of.ensures in
+    let shape : look_seen st (rebuilt t.frame t.level) ≡ Ok c.in_ok-display_of.field-0 = looked_ok (look_seen st (rebuilt t.frame t.level)) c.in_ok-display_of.field-0 c.in_ok-display_of.ensures in
     let has : look_seen img.stacks (rebuilt t.frame t.level) ≡ Ok c.in_ok-display_of.field-0 = ap (λ (z : Stacks). look_seen z (rebuilt t.frame t.level)) s ∙ shape in
     let critical : is_critical r.stack (passed_frames way.passing.frames) (live_criticals img.states img.regs) ≡ c.in_ok-critical.critical =
     ap (λ (z : List ProcessState). is_critical r.stack (passed_frames way.passing.frames) (live_criticals z img.regs)) e
@@ -88,7 +89,7 @@ returns-clause-clear g c =
     let t = tabled c.args.target.now in
     let places = live_criticals c.args.states.now c.args.all.now in
     let way = is_passed st places r t.frame c.in_ok-critical.critical c.in_ok-critical.ensures in
-    let shape : look_seen st (rebuilt t.frame t.level) ≡ Ok c.in_ok-display_of.field-0 = found_of (look_seen st (rebuilt t.frame t.level)) c.in_ok-display_of.field-0 c.in_ok-display_of.ensures in (
+    let shape : look_seen st (rebuilt t.frame t.level) ≡ Ok c.in_ok-display_of.field-0 = looked_ok (look_seen st (rebuilt t.frame t.level)) c.in_ok-display_of.field-0 c.in_ok-display_of.ensures in (
       record { passing = way.passing; display = c.in_ok-display_of.field-0 },
       cut_of st r t.frame t.level way.passing c.in_ok-display_of.field-0 way.is shape,
       omega (arith, ends_lower st r t.frame way.passing c.if-target-regs.false way.is, c.requires.linked.above, c.requires.linked.room),

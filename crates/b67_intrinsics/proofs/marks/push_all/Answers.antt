@@ -1,8 +1,9 @@
 use Rattle.std.proofs.Common.{◌∙◌, ◌+◌, ap, subst, sym, length, List, IsSome, arith}
 use Rattle.b67_word.specs.Word.{Word}
+use Rattle.b67_word.proofs.Cited.{one_longer}
 use Rattle.b67_control.specs.Control.{descriptor_word}
 use Rattle.b67_store.specs.Store.{Stacks, stack_at, words_of, with_push}
-use Rattle.b67_intrinsics.proofs.Pushing.{ArePushed, pushed_words, still_open, one_longer, pushed_more, pushed_all}
+use Rattle.b67_intrinsics.proofs.Pushing.{ArePushed, pushed_words, still_open, pushed_more, pushed_all}
 use Rattle.b67_intrinsics.proofs.marks.push_all.Goals as goal
 
 pub pushing-preserved : goal.pushing-preserved

@@ -1,6 +1,7 @@
 use Rattle.std.proofs.Common.{take, arith}
 use Rattle.std.proofs.lemmas.List.{length-take}
-use Rattle.b67_io.proofs.Known.{Consumes-next, all_taken, later_still, more_left, takes_between, takes_front}
+use Rattle.b67_list.proofs.Numbers.{later_still}
+use Rattle.b67_io.proofs.Known.{Consumes_next, all_taken, more_left, takes_between, takes_front}
 use Rattle.b67_io.proofs.reading.read_all.Goals as goal
 
 pub returns-then-most-len-clause-taken : goal.returns-then-most-len-clause-taken
@@ -29,6 +30,6 @@ pub reading-preserved : goal.reading-preserved
 reading-preserved g c =
     record {
       within = omega (arith, c.in_ok-extend_from_slice.ensures.len, c.if-most-len.false, c.reading.invariant.within, length-take c.in_ok-count.count c.read.new.piece, c.in_ok-count.ensures.within.0, c.in_ok-count.ensures.within.1);
-      taken = Consumes-next _ _ _ c.reading.bytes.items (take c.in_ok-count.count c.read.new.piece) c.extend_from_slice.new.self.items c.in_ok-extend_from_slice.ensures.items c.reading.invariant.taken c.in_ok-count.ensures.given.0;
+      taken = Consumes_next _ _ _ c.reading.bytes.items (take c.in_ok-count.count c.read.new.piece) c.extend_from_slice.new.self.items c.in_ok-extend_from_slice.ensures.items c.reading.invariant.taken c.in_ok-count.ensures.given.0;
       later = later_still _ _ _ c.reading.invariant.later c.in_ok-count.ensures.cause.later;
     }

@@ -3,8 +3,9 @@ use Rattle.std.specs.Prelude.{slice_get}
 use Rattle.std.proofs.lemmas.List.{take_all}
 use Rattle.b67_word.specs.Word.{Word}
 use Rattle.b67_store.specs.Store.{row_words, closed_at}
+use Rattle.b67_list.proofs.Lists.{no_longer}
 use Rattle.b67_linkage.specs.Closing.{without_rows}
-use Rattle.b67_linkage.proofs.Closed.{next_daughter, no_place}
+use Rattle.b67_linkage.proofs.Closed.{next_daughter}
 use Rattle.b67_linkage.proofs.arrays.close_daughters.Goals as goal
 
 pub words-init : goal.words-init
@@ -23,7 +24,7 @@ returns-in_default-clause-rows g c =
     let words = row_words (g.C.Core.rows c.args.core.now) c.args.mother in
     let e : slice_get words (c.words.at - 1) ≡ None =
     ap (λ (ws : List Word). slice_get ws (c.words.at - 1)) (sym c.words.invariant.mother) ∙ sym c.read_row.ensures ∙ c.in_default.is in
-    absurd (omega (arith, no_place words (c.words.at - 1) e, c.words.invariant.within, c.words-test.true))
+    absurd (omega (arith, no_longer words (c.words.at - 1) e, c.words.invariant.within, c.words-test.true))
 
 pub words-preserved : goal.words-preserved
 words-preserved g c =

@@ -5,6 +5,7 @@ use Rattle.b67_store.specs.Store.{words_of}
 use Rattle.b67_table.specs.declared.Private.{Private}
 use Rattle.b67_table.specs.Image.{is_able}
 use Rattle.b67_table.specs.Table.{plain}
+use Rattle.b67_table.proofs.Waking.{able_live}
 use Rattle.b67_linkage.proofs.Linked.{live_are_linked}
 use Rattle.b67_private.specs.Parts.{IsPrivatePart, PlainParts, is_plain, part_in, part_with}
 use Rattle.b67_private.proofs.Stretching.{plain_deep}
@@ -16,19 +17,18 @@ use Rattle.b67_machine.specs.Kept.{MachineModel}
 use Rattle.b67_machine.specs.Machines.{with_failure}
 use Rattle.b67_machine.proofs.Failures.{valid_with}
 use Rattle.b67_machine.proofs.Going.{plain_by_one}
-use Rattle.b67_machine.proofs.Plainly.{live_of}
 use Rattle.b67_machine.proofs.Machine.is_plain.Goals as goal
 
 pub copy_words-requires-clause-linked : goal.copy_words-requires-clause-linked
 copy_words-requires-clause-linked g c =
     let able = subst (λ (k : MachineModel). is_able (numbered k.image.states c.args.process) ≡ true) (sym c.self.view_is) c.requires in
     live_are_linked c.self.inside.parts.code (image_of (g.C.Core.stacks c.self.inside.core) (g.C.Core.rows c.self.inside.core) c.self.inside.kernel c.self.inside.parts)
-    c.args.process c.registers.result.now c.self.invariant.0 (live_of (numbered c.self.inside.parts.states.items c.args.process) able) c.registers.ensures
+    c.args.process c.registers.result.now c.self.invariant.0 (able_live (numbered c.self.inside.parts.states.items c.args.process) able) c.registers.ensures
 
 pub burst_in_place-requires-clause-part : goal.burst_in_place-requires-clause-part
 burst_in_place-requires-clause-part g c =
     let able = subst (λ (k : MachineModel). is_able (numbered k.image.states c.args.process) ≡ true) (sym c.self.view_is) c.requires in
-    let live = live_of (numbered c.self.inside.parts.states.items c.args.process) able in
+    let live = able_live (numbered c.self.inside.parts.states.items c.args.process) able in
     let img = image_of (g.C.Core.stacks c.self.inside.core) (g.C.Core.rows c.self.inside.core) c.self.inside.kernel c.self.inside.parts in
     subst IsPrivatePart (ap (λ ws. part_with c.registers.result.now (reverse ws)) (sym c.copy_words.ensures.words))
     (valid_whole c.self.inside.parts.code img c.args.process c.registers.result.now c.self.invariant.0 live c.registers.ensures)
@@ -38,7 +38,7 @@ returns g c =
     let able = subst (λ (k : MachineModel). is_able (numbered k.image.states c.args.process) ≡ true) (sym c.self.view_is) c.requires in
     let code = c.self.inside.parts.code in
     let base = image_of (g.C.Core.stacks c.self.inside.core) (g.C.Core.rows c.self.inside.core) c.self.inside.kernel c.self.inside.parts in
-    let live = live_of (numbered c.self.inside.parts.states.items c.args.process) able in
+    let live = able_live (numbered c.self.inside.parts.states.items c.args.process) able in
     let st = g.C.Core.stacks c.self.inside.core in
     let rows = g.C.Core.rows c.self.inside.core in
     let r = c.registers.result.now in

@@ -1,20 +1,12 @@
-use Rattle.std.proofs.Common.{◌≡◌, refl, ap, ◌∙◌, ℕ, Bool, true, Option, Some, None, arith}
+use Rattle.std.proofs.Common.{◌≡◌, refl, ap, ◌∙◌, true, Option, Some, None, arith}
 use Rattle.b67_list.specs.Numbered.{numbered}
 use Rattle.b67_table.specs.declared.ProcessState.{ProcessState}
 use Rattle.b67_table.specs.declared.ProcessState.TheVariants.{Able, WaitsFor, WaitsAny, Procures, Ended}
-use Rattle.b67_table.specs.Ending.{ImageEnd, goes_on, image_end, may_act}
-use Rattle.b67_table.specs.Image.{Image, is_able}
+use Rattle.b67_table.specs.Image.{is_able}
 use Rattle.b67_table.proofs.Lists.{numbered_from, numbered_within}
+use Rattle.b67_table.proofs.Cited.{may_able}
 use Rattle.b67_machine.specs.Kept.{MachineModel}
 use Rattle.b67_machine.proofs.Machine.last_process.Goals as goal
-
-goes_able : (o : Option ImageEnd) (b : Bool) → goes_on o b ≡ true → b ≡ true
-goes_able None b e = e
-goes_able (Some x) b e = cc
-
-may_able : (img : Image) (p : ℕ) → may_act img p ≡ true → is_able (numbered img.states p) ≡ true
-unfolding may_act
-may_able img p e = goes_able (image_end img) (is_able (numbered img.states p)) e
 
 able_is : (o : Option ProcessState) → is_able o ≡ true → o ≡ Some Able
 able_is None e = cc

@@ -4,6 +4,7 @@ use Rattle.b67_segment.specs.declared.code.Code.{Code}
 use Rattle.b67_table.specs.Image.{Image, is_able}
 use Rattle.b67_table.specs.Valid.{IsValid}
 use Rattle.b67_table.proofs.Lists.{numbered_from, numbered_within}
+use Rattle.b67_table.proofs.Waking.{able_live}
 use Rattle.b67_linkage.proofs.Linked.{live_are_linked}
 use Rattle.b67_reach.specs.Images.{image_of}
 use Rattle.b67_action.specs.Running.{HasRun}
@@ -17,7 +18,6 @@ use Rattle.b67_machine.specs.Tables.{AreTables}
 use Rattle.b67_machine.proofs.Ends.{goes_on}
 use Rattle.b67_machine.proofs.Failures.{none_kept, valid_with}
 use Rattle.b67_machine.proofs.Lending.{kept_with}
-use Rattle.b67_machine.proofs.Plainly.{live_of}
 use Rattle.b67_machine.proofs.Machine.run_process.Goals as goal
 
 pub registers-regs-requires : goal.registers-regs-requires
@@ -32,7 +32,7 @@ prepare-requires-clause-level g c =
       arith,
       (live_are_linked c.self.inside.parts.code
           (image_of (g.C.Core.stacks c.self.inside.core) (g.C.Core.rows c.self.inside.core) c.self.inside.kernel c.self.inside.parts) c.args.process c.registers-regs.result.now
-          c.self.invariant.0 (live_of (numbered c.self.inside.parts.states.items c.args.process) able) c.registers-regs.ensures).level,
+          c.self.invariant.0 (able_live (numbered c.self.inside.parts.states.items c.args.process) able) c.registers-regs.ensures).level,
     )
 
 pub run_in-ran-requires-clause-valid : goal.run_in-ran-requires-clause-valid

@@ -5,6 +5,7 @@ use Rattle.b67_table.specs.Image.{Image, is_able}
 use Rattle.b67_table.specs.Outcome.{Outcome}
 use Rattle.b67_table.specs.Valid.{IsValid}
 use Rattle.b67_table.proofs.Lists.{numbered_from, numbered_within}
+use Rattle.b67_table.proofs.Waking.{able_live}
 use Rattle.b67_linkage.proofs.Linked.{live_are_linked}
 use Rattle.b67_reach.specs.Images.{image_of}
 use Rattle.b67_action.proofs.Ready.{registers_there, if_some}
@@ -25,7 +26,6 @@ use Rattle.b67_machine.specs.Machines.{with_failure}
 use Rattle.b67_machine.specs.Stepping.{operators_in, StepsBy}
 use Rattle.b67_machine.proofs.Ends.{goes_on}
 use Rattle.b67_machine.proofs.Failures.{none_kept, valid_with, released_so, acts_by}
-use Rattle.b67_machine.proofs.Plainly.{live_of}
 use Rattle.b67_machine.proofs.Machine.step.Goals as goal
 
 at_most_one : (done : Done) → operators_in done ≤ 1
@@ -78,7 +78,7 @@ prepare-requires-clause-level g c =
       arith,
       (live_are_linked c.self.inside.parts.code
           (image_of (g.C.Core.stacks c.self.inside.core) (g.C.Core.rows c.self.inside.core) c.self.inside.kernel c.self.inside.parts) c.args.process c.registers-regs.result.now
-          c.self.invariant.0 (live_of (numbered c.self.inside.parts.states.items c.args.process) able) c.registers-regs.ensures).level,
+          c.self.invariant.0 (able_live (numbered c.self.inside.parts.states.items c.args.process) able) c.registers-regs.ensures).level,
     )
 
 pub action-done-requires-clause-table : goal.action-done-requires-clause-table

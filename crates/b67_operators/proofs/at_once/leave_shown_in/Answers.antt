@@ -1,9 +1,9 @@
 use Rattle.std.proofs.Common.{◌≡◌, refl, ℕ, zero, suc, ◌-◌, ◌<◌, ◌≤◌, subst, List, length, set, slice_get, Option, Some, None, arith, rules}
 use Rattle.std.specs.Prelude.{IfSome}
 use Rattle.b67_list.specs.Numbered.{numbered}
+use Rattle.b67_list.proofs.Lists.{get_within}
 use Rattle.b67_control.specs.declared.Registers.{Registers}
 use Rattle.b67_store.specs.Store.{Stacks, Rows}
-use Rattle.b67_table.proofs.Lists.{get_within}
 use Rattle.b67_display.specs.Shown.{IsShown}
 use Rattle.b67_linkage.specs.Showing.{leaving_shown}
 use Rattle.b67_operators.specs.Leaves.{IsLinkedIn, HasLeftFrame}

@@ -2,7 +2,7 @@ use Rattle.std.proofs.Common.{List, sym, subst, ◌∙◌, arith}
 use Rattle.std.proofs.lemmas.List.{length-take-le}
 use Rattle.b67_deeds.specs.declared.Letter.{Letter}
 use Rattle.b67_machine.specs.Entries.{PerformsEntries}
-use Rattle.b67_plant.proofs.Many.{first_is}
+use Rattle.b67_parcel.proofs.Stretching.{first_is}
 use Rattle.b67_plant.proofs.entering.perform_most.Goals as goal
 
 pub perform_entries-requires-clause-room : goal.perform_entries-requires-clause-room

@@ -2,7 +2,7 @@ use Rattle.std.proofs.Common.{◌≡◌, ◌∷◌, [], ◌++◌, ℕ, Some, Lis
 use Rattle.std.proofs.lemmas.Result.{err_from_is_err_and}
 use Rattle.b67_schedule.specs.declared.Run.{Run}
 use Rattle.b67_deeds.specs.declared.Letter.{Letter}
-use Rattle.b67_schedule.proofs.LinesRead.{LinesRead, no_lines, line_added, lines_refused}
+use Rattle.b67_schedule.proofs.LinesRead.{LinesRead, line_added, lines_refused}
 use Rattle.b67_schedule.proofs.lines.read_lines.Goals as goal
 
 pub returns-in_err-run-clause-refused : goal.returns-in_err-run-clause-refused

@@ -1,8 +1,9 @@
 use Rattle.std.proofs.Common.{arith, ◌≡◌, subst, ap, ℕ, ◌+◌, List, [], drop, drop_of_length-le}
 use Rattle.b67_schedule.specs.declared.Run.{Run}
 use Rattle.b67_schedule.specs.Schedules.{entries}
+use Rattle.b67_schedule.proofs.Cited.{entries_drop}
 use Rattle.b67_stops.specs.Answering.{IsAt}
-use Rattle.b67_stops.proofs.Onward.{ends, entries_drop}
+use Rattle.b67_stops.proofs.Onward.{ends}
 use Rattle.b67_stops.proofs.going.answers_of.Goals as goal
 
 pub go_run-requires-clause-here : goal.go_run-requires-clause-here

@@ -4,8 +4,9 @@ use Rattle.algol_cells.specs.SeenScope.{scoped}
 use Rattle.algol_world.specs.SeenWorld.{world_of}
 use Rattle.b67_schedule.specs.declared.Run.{Run}
 use Rattle.b67_schedule.specs.Schedules.{entries}
+use Rattle.b67_schedule.proofs.Cited.{entries_drop}
 use Rattle.b67_storing.specs.Walking.{StandsNoted}
-use Rattle.b67_storing.proofs.Standing.{entries_drop, run_goes}
+use Rattle.b67_storing.proofs.Standing.{run_goes}
 use Rattle.b67_storing.proofs.walking.note_all.Goals as goal
 
 abbrev no_run : Run

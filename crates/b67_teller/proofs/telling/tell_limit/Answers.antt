@@ -7,11 +7,11 @@ use Rattle.b67_told.specs.Telling.{OutcomeIsTold}
 use Rattle.b67_outcomes.specs.declared.found.Step.{Step}
 use Rattle.b67_outcomes.specs.Entering.{HistoryLeads, HistoryLeadsTo}
 use Rattle.b67_outcomes.specs.Finding.{History}
-use Rattle.b67_outcomes.proofs.Histories.{history_one, history_short, history_within, led_leads}
+use Rattle.b67_outcomes.proofs.Histories.{history_one, history_short, history_within, led_leads, ok_map}
 use Rattle.b67_teller.specs.Following.{HasOutcome, stopped_outcome}
 use Rattle.b67_teller.specs.Books.{IsLeftOut, HasCause, IsLimitTold, IsHistoryWith, HasOther}
 use Rattle.b67_teller.proofs.Booking.{limit_schedule}
-use Rattle.b67_teller.proofs.States.{ok_map, limit_may, limit_stops, limit_has, limit_shown, limit_told, short_with, told_here, told_back}
+use Rattle.b67_teller.proofs.States.{limit_may, limit_stops, limit_has, limit_shown, limit_told, short_with, told_here, told_back}
 use Rattle.b67_teller.proofs.telling.tell_limit.Goals as goal
 
 pub words_at-requires-clause-leads : goal.words_at-requires-clause-leads

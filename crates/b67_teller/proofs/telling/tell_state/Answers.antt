@@ -9,11 +9,11 @@ use Rattle.b67_told.specs.Telling.{OutcomeIsTold}
 use Rattle.b67_outcomes.specs.declared.found.Step.{Step}
 use Rattle.b67_outcomes.specs.Entering.{HistoryLeads, HistoryLeadsTo}
 use Rattle.b67_outcomes.specs.Finding.{History}
-use Rattle.b67_outcomes.proofs.Histories.{history_short, led_leads}
+use Rattle.b67_outcomes.proofs.Histories.{history_short, led_leads, ok_map}
 use Rattle.b67_teller.specs.Following.{HasOutcome}
 use Rattle.b67_teller.specs.Books.{IsSettled, IsOpen, IsLeftOut, HasCause, HasOther, IsStateTold}
 use Rattle.b67_teller.proofs.Booking.{state_schedule}
-use Rattle.b67_teller.proofs.States.{ok_map, open_end, state_settled, state_told, state_has, state_other, short_of, followed_told}
+use Rattle.b67_teller.proofs.States.{open_end, state_settled, state_told, state_has, state_other, short_of, followed_told}
 use Rattle.b67_teller.proofs.telling.tell_state.Goals as goal
 
 pub returns-then-is_followed-clause-told : goal.returns-then-is_followed-clause-told

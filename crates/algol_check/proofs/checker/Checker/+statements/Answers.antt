@@ -3,9 +3,10 @@ use Rattle.std.specs.Prelude.{option_copied}
 use Rattle.algol_tree.specs.Blocks.{of_statement}
 use Rattle.algol_tree.specs.Image.{body, decls, expr, stmt, stmts}
 use Rattle.algol_tree.specs.Sites.{has_decls}
+use Rattle.b67_list.proofs.Answered.{on_ok}
 use Rattle.algol_check.specs.Declaring.{decls_in}
 use Rattle.algol_check.specs.Walking.{begin_as}
-use Rattle.algol_check.proofs.Arms.{after_faults, announced_here, arrays_arm, assign_arm, block_arm, block_ends, body_arm, call_arm, case_arm, case_ends, decls_less, decls_remain, empty_arm, event_arm, events_arm, files_arm, for_arm, for_ends, forward_arm, go_to_arm, if_else_arm, if_then_arm, label_arm, labels_arm, on_ok, procedure_arm, procedure_ends, process_arm, remains_all, remains_less, remains_none, simple_arm, stmts_as, tasks_arm, thru_arm, until_arm, until_ends, while_arm, write_arm}
+use Rattle.algol_check.proofs.Arms.{after_faults, announced_here, arrays_arm, assign_arm, block_arm, block_ends, body_arm, call_arm, case_arm, case_ends, decls_less, decls_remain, empty_arm, event_arm, events_arm, files_arm, for_arm, for_ends, forward_arm, go_to_arm, if_else_arm, if_then_arm, label_arm, labels_arm, procedure_arm, procedure_ends, process_arm, remains_all, remains_less, remains_none, simple_arm, stmts_as, tasks_arm, thru_arm, until_arm, until_ends, while_arm, write_arm}
 use Rattle.algol_check.proofs.Stated.{label_walks}
 use Rattle.algol_check.proofs.checker.Checker.+statements.Goals as goal
 

@@ -1,8 +1,8 @@
 use Rattle.std.proofs.Common.{◌∙◌, ap, sym}
 use Rattle.algol_tree.specs.Blocks.{spot_of}
 use Rattle.algol_tree.specs.Image.{body}
+use Rattle.algol_tree.proofs.Images.{body_is}
 use Rattle.algol_check.specs.Walking.{begin_as}
-use Rattle.algol_check.proofs.Arms.{body_is}
 use Rattle.algol_check.proofs.Bodied.{enters_block, enters_none}
 use Rattle.algol_check.proofs.checker.Checker.begin.Goals as goal
 

@@ -1,4 +1,5 @@
-use Rattle.algol_frames.proofs.ByLine.{numbers_within, on_ok, placed_more}
+use Rattle.b67_list.proofs.Answered.{on_ok}
+use Rattle.algol_frames.proofs.ByLine.{numbers_within, placed_more}
 use Rattle.algol_frames.proofs.by_line.ByLine.put.Goals as goal
 
 pub returns-clause-placed : goal.returns-clause-placed

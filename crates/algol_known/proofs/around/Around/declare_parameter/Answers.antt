@@ -1,5 +1,5 @@
+use Rattle.b67_list.proofs.Answered.{on_ok}
 use Rattle.algol_known.proofs.Declaring.{introduces}
-use Rattle.algol_known.proofs.Widening.{on_ok}
 use Rattle.algol_known.proofs.around.Around.declare_parameter.Goals as goal
 
 pub returns-clause-known : goal.returns-clause-known

@@ -2,9 +2,9 @@ use Rattle.std.proofs.Common.{◌≡◌, ap, sym, ◌∙◌, List}
 use Rattle.algol_tree.specs.Plain as tree
 use Rattle.algol_tree.specs.declared.tree.Stmt.{Stmt}
 use Rattle.algol_tree.specs.declared.tree.Decl.{Decl}
+use Rattle.algol_tree.proofs.Images.{stmt_of_until}
 use Rattle.algol_meaning.specs.SeenTree.{expr, stmt, stmts, decls}
 use Rattle.algol_cells.specs.SeenScope.{scoped}
-use Rattle.algol_rest.proofs.Statements.{stmt_of_until}
 use Rattle.algol_rest.proofs.Labels.{stmt_of_block}
 use Rattle.algol_rest.proofs.statement.Work.begin.Goals as goal
 

@@ -1,8 +1,8 @@
 use Rattle.std.proofs.Common.{◌≡◌, ap, sym, ◌∙◌}
 use Rattle.algol_tree.specs.Plain as tree
 use Rattle.algol_tree.specs.declared.tree.Stmt.{Stmt}
+use Rattle.algol_tree.proofs.Images.{stmt_of_thru}
 use Rattle.algol_meaning.specs.SeenTree.{expr, stmt}
-use Rattle.algol_rest.proofs.Statements.{stmt_of_thru}
 use Rattle.algol_rest.proofs.statement.Work.count_on.Goals as goal
 
 pub returns-in-Thru : goal.returns-in-Thru

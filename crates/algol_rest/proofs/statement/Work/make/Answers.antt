@@ -1,9 +1,10 @@
 use Rattle.std.proofs.Common.{◌≡◌, refl, ap, sym, ◌∙◌}
 use Rattle.algol_tree.specs.Plain as tree
+use Rattle.algol_tree.proofs.Images.{decl_of_events, decl_of_files, decl_of_labels, decl_of_tasks, forward_is, procedure_is, simple_is}
 use Rattle.algol_meaning.specs.SeenTree.{stmt, decl}
 use Rattle.algol_cells.specs.SeenScope.{scoped}
 use Rattle.algol_rest.specs.SeenStatement.{weigh}
-use Rattle.algol_rest.proofs.Declaring.{decl_takes, decl_of_events, decl_of_tasks, decl_of_simple, decl_of_files, decl_of_labels, decl_of_forward, decl_of_procedure}
+use Rattle.algol_rest.proofs.Declaring.{decl_takes}
 use Rattle.algol_rest.proofs.statement.Work.make.Goals as goal
 
 pub returns-in-Events : goal.returns-in-Events
@@ -23,7 +24,7 @@ returns-in-Tasks c =
 pub returns-in-Simple : goal.returns-in-Simple
 returns-in-Simple c =
     let i = c.in-Simple in
-    rw (ap decl i.is ∙ decl_of_simple i.field-0 i.field-1) (refl, c.requires, decl_takes (tree.simple i.field-0 i.field-1) (weigh c.args.self.now.todo))
+    rw (ap decl i.is ∙ simple_is i.field-0 i.field-1) (refl, c.requires, decl_takes (tree.simple i.field-0 i.field-1) (weigh c.args.self.now.todo))
 
 pub returns-in-Files : goal.returns-in-Files
 returns-in-Files c =
@@ -37,10 +38,10 @@ returns-in-Labels c =
 pub returns-in-Forward : goal.returns-in-Forward
 returns-in-Forward c =
     let i = c.in-Forward in
-    rw (ap decl i.is ∙ decl_of_forward i.field-0) (refl, c.requires, decl_takes (tree.forward i.field-0) (weigh c.args.self.now.todo))
+    rw (ap decl i.is ∙ forward_is i.field-0) (refl, c.requires, decl_takes (tree.forward i.field-0) (weigh c.args.self.now.todo))
 
 pub returns-in-Procedure : goal.returns-in-Procedure
 returns-in-Procedure c =
     let i = c.in-Procedure in
-    rw (ap decl i.is ∙ decl_of_procedure i.field-0 i.field-1)
+    rw (ap decl i.is ∙ procedure_is i.field-0 i.field-1)
     (refl, c.requires, decl_takes (tree.procedure i.field-0 (stmt i.field-1.value)) (weigh c.args.self.now.todo))

@@ -5,8 +5,8 @@ use Rattle.algol_meaning.specs.SeenTree as seen
 use Rattle.algol_meaning.specs.SeenTree.{stmts}
 use Rattle.algol_rest.specs.SeenStatement.{ahead, following}
 use Rattle.algol_meaning.specs.Statements.{settle_items}
+use Rattle.algol_meaning.proofs.Cited.{settles_items}
 use Rattle.algol_rest.specs.declared.statement.Next.{Next}
-use Rattle.algol_rest.proofs.Following.{settles_items}
 use Rattle.algol_rest.proofs.statement.Work.open.Goals as goal
 
 pub returns-in_ok-push-in-None : goal.returns-in_ok-push-in-None

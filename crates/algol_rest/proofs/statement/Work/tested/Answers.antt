@@ -1,13 +1,13 @@
 use Rattle.std.proofs.Common.{◌≡◌, ap, sym, subst, ◌∙◌, ◌+◌, ℤ, IfOk}
 use Rattle.algol_tree.specs.Plain as tree
 use Rattle.algol_tree.specs.declared.tree.Stmt.{Stmt}
+use Rattle.algol_tree.proofs.Images.{for_is, stmt_of_if, stmt_of_thru, stmt_of_until, stmt_of_while}
 use Rattle.algol_meaning.specs.Value as plain
 use Rattle.algol_meaning.specs.Statements.{repeated_of, counted_body, settle_items}
 use Rattle.algol_meaning.specs.SeenTree.{expr, stmt, branched}
 use Rattle.algol_cells.specs.SeenValue.{value}
 use Rattle.algol_cells.specs.SeenScope.{scoped}
 use Rattle.algol_rest.specs.SeenStatement.{ahead, Advances, stmt_size, weigh}
-use Rattle.algol_rest.proofs.Statements.{stmt_of_if, stmt_of_while, stmt_of_until, stmt_of_thru, stmt_of_for}
 use Rattle.algol_rest.proofs.statement.Work.tested.Goals as goal
 
 pub returns-in-If : goal.returns-in-If
@@ -52,6 +52,6 @@ returns-in-For c =
     let i = c.in-For in
     let e : stmt c.args.s.now ≡ tree.for i.field-0 (expr i.field-1) (expr i.step) (expr i.field-3) (stmt c.deref-in-For.result.now) =
     ap stmt i.is
-    ∙ stmt_of_for i.field-0 i.field-1 i.step i.field-3 i.b
+    ∙ for_is i.field-0 i.field-1 i.step i.field-3 i.b
     ∙ ap (λ (x : Stmt). tree.for i.field-0 (expr i.field-1) (expr i.step) (expr i.field-3) (stmt x)) (sym c.deref-in-For.ensures) in
     rw e (c.test_for.ensures i.field-0 (expr i.field-1) (expr i.field-3) e)

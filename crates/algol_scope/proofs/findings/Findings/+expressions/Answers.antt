@@ -5,9 +5,10 @@ use Rattle.algol_tree.specs.Image.{expr, exprs}
 use Rattle.algol_tree.specs.Sites.{sites, inside_list}
 use Rattle.b67_deeds.specs.declared.EventTest.TheVariants as test
 use Rattle.algol_known.proofs.Plain.{expr_happened, expr_available, expr_fix, expr_waited}
+use Rattle.b67_list.proofs.Answered.{on_ok}
 use Rattle.algol_scope.specs.declared.findings.Findings.{Findings}
 use Rattle.algol_scope.specs.Noting.{ScopeWalks, at_name}
-use Rattle.algol_scope.proofs.Walking.{follows-item, follows-end, passing-item, passing-end, Follows, walks-then, walks-asked, walks-waited, walks-call, walks-of, on_ok, copied-get, get-within}
+use Rattle.algol_scope.proofs.Walking.{follows_item, follows_end, passing_item, passing_end, Follows, walks_then, walks_asked, walks_waited, walks_call, walks_of, copied_get, get_within}
 use Rattle.algol_scope.proofs.Waiting.{waiting_parts, under_more, under_last, goes_in_paren, goes_in_plus, goes_in_neg, goes_in_not, goes_left, goes_last, comes_back_as, taken_up, none_waits, none_left, walks_number, walks_truth, walks_variable, walks_called}
 use Rattle.algol_scope.proofs.Sizes.{in_paren, in_plus, in_neg, in_not, in_left, in_right, in_otherwise}
 use Rattle.algol_scope.proofs.findings.Findings.+expressions.Goals as goal
@@ -15,33 +16,33 @@ use Rattle.algol_scope.proofs.findings.Findings.+expressions.Goals.{expr-in-Numb
 
 pub list-expressions-preserved : goal.list-expressions-preserved
 list-expressions-preserved t c =
-    follows-item c.args.around.now c.args.seen c.args.self.now c.expressions.self c.expr.new.self (inside_list (exprs c.args.es.now))
+    follows_item c.args.around.now c.args.seen c.args.self.now c.expressions.self c.expr.new.self (inside_list (exprs c.args.es.now))
     c.deref-e-items.result.now c.expressions.e-index c.e-item.result c.expressions-test.true c.e-item.is c.expressions.invariant
     c.in_ok-expr.ensures
 
 pub list-returns : goal.list-returns
 list-returns t c =
-    follows-end c.args.around.now c.args.seen c.args.self.now c.expressions.self (inside_list (exprs c.args.es.now)) _
+    follows_end c.args.around.now c.args.seen c.args.self.now c.expressions.self (inside_list (exprs c.args.es.now)) _
     (drop_all c.expressions.e-index c.deref-e-items.result.now c.expressions-test.false) c.expressions.invariant
 
 pub actuals-actuals-preserved : goal.actuals-actuals-preserved
 actuals-actuals-preserved t c =
-    passing-item c.args.around.now c.args.seen c.args.self.now c.actuals.self c.actual.new.self c.expr.new.self c.args.modes.now
+    passing_item c.args.around.now c.args.seen c.args.self.now c.actuals.self c.actual.new.self c.expr.new.self c.args.modes.now
     (exprs c.args.es.now) c.deref-e-items.result.now c.actuals.at c.e-item.result c.copied.result c.actuals-test.true c.e-item.is
     (c.copied.ensures
-    ∙ copied-get c.args.modes.now c.actuals.at c.get.result (get-within c.args.modes.now c.actuals.at c.get.result _ c.get.ensures.lookup.3)
+    ∙ copied_get c.args.modes.now c.actuals.at c.get.result (get_within c.args.modes.now c.actuals.at c.get.result _ c.get.ensures.lookup.3)
     c.get.ensures.lookup.1)
     c.actuals.invariant c.in_ok-actual.ensures c.in_ok-expr.ensures
 
 pub actuals-returns : goal.actuals-returns
 actuals-returns t c =
-    passing-end c.args.around.now c.args.seen c.args.self.now c.actuals.self c.args.modes.now (exprs c.args.es.now) c.actuals.at _
+    passing_end c.args.around.now c.args.seen c.args.self.now c.actuals.self c.args.modes.now (exprs c.args.es.now) c.actuals.at _
     (drop_all c.actuals.at c.deref-e-items.result.now c.actuals-test.false) c.actuals.invariant
 
 pub call-returns : goal.call-returns
 call-returns t c =
     on_ok c.actuals.result
-    (walks-call c.args.around.now c.args.seen c.args.self.now c.name.new.self c.actuals.new.self c.args.c.now.name c.modes.result.now
+    (walks_call c.args.around.now c.args.seen c.args.self.now c.name.new.self c.actuals.new.self c.args.c.now.name c.modes.result.now
     (exprs c.args.c.now.actuals) c.in_ok-class.ensures.walks
     (λ a s. c.modes.ensures ∙ (c.in_ok-class.ensures.class a s).modes))
     c.actuals.ensures
@@ -122,23 +123,23 @@ expr-waiting-init t c =
             back w.call.new.self (walks_called k seen now w.call.new.self c.parts.at.now w.in-Call.c w.in-Call.is w.in_ok-call-in-Call.ensures) w.self-is
         | expr-in-Happened+in_ok-name-in-Happened w ↦
             back w.name.new.self
-            (walks-of k seen now w.name.new.self _ _ (expr_happened _ _ _ w.in-Happened.is)
-            (walks-asked k seen now w.name.new.self test.Happened w.in-Happened.event w.in-Happened.field-1 w.in_ok-name-in-Happened.ensures.walks))
+            (walks_of k seen now w.name.new.self _ _ (expr_happened _ _ _ w.in-Happened.is)
+            (walks_asked k seen now w.name.new.self test.Happened w.in-Happened.event w.in-Happened.field-1 w.in_ok-name-in-Happened.ensures.walks))
             w.self-is
         | expr-in-Available+in_ok-name-in-Available w ↦
             back w.name-in-Available.new.self
-            (walks-of k seen now w.name-in-Available.new.self _ _ (expr_available _ _ _ w.in-Available.is)
-            (walks-asked k seen now w.name-in-Available.new.self test.Available w.in-Available.event w.in-Available.field-1 w.in_ok-name-in-Available.ensures.walks))
+            (walks_of k seen now w.name-in-Available.new.self _ _ (expr_available _ _ _ w.in-Available.is)
+            (walks_asked k seen now w.name-in-Available.new.self test.Available w.in-Available.event w.in-Available.field-1 w.in_ok-name-in-Available.ensures.walks))
             w.self-is
         | expr-in-Fix+in_ok-name-in-Fix w ↦
             back w.name-in-Fix.new.self
-            (walks-of k seen now w.name-in-Fix.new.self _ _ (expr_fix _ _ _ w.in-Fix.is)
-            (walks-asked k seen now w.name-in-Fix.new.self test.Fix w.in-Fix.event w.in-Fix.field-1 w.in_ok-name-in-Fix.ensures.walks))
+            (walks_of k seen now w.name-in-Fix.new.self _ _ (expr_fix _ _ _ w.in-Fix.is)
+            (walks_asked k seen now w.name-in-Fix.new.self test.Fix w.in-Fix.event w.in-Fix.field-1 w.in_ok-name-in-Fix.ensures.walks))
             w.self-is
         | expr-in-WaitAny+in_ok-events-in-WaitAny w ↦
             back w.events.new.self
-            (walks-of k seen now w.events.new.self _ _ (expr_waited _ _ _ w.in-WaitAny.is)
-            (walks-waited k seen now w.events.new.self w.in-WaitAny.events w.in-WaitAny.field-1 w.in_ok-events-in-WaitAny.ensures))
+            (walks_of k seen now w.events.new.self _ _ (expr_waited _ _ _ w.in-WaitAny.is)
+            (walks_waited k seen now w.events.new.self w.in-WaitAny.events w.in-WaitAny.field-1 w.in_ok-events-in-WaitAny.ensures))
             w.self-is
       ],
       c.parts.invariant.2,
@@ -166,6 +167,6 @@ pub variable-returns : goal.variable-returns
 variable-returns t c =
     on_ok c.list.result
     (λ h.
-    walks-then c.args.around.now c.args.seen c.args.self.now c.name.new.self c.list.new.self (λ a. at_name c.args.v.now.name a ∷ [])
+    walks_then c.args.around.now c.args.seen c.args.self.now c.name.new.self c.list.new.self (λ a. at_name c.args.v.now.name a ∷ [])
     (inside_list (exprs c.args.v.now.subs)) c.in_ok-name.ensures.walks h)
     c.list.ensures

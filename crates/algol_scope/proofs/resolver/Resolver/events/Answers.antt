@@ -1,6 +1,6 @@
-use Rattle.algol_scope.proofs.Walking.{on_ok}
-use Rattle.algol_scope.proofs.Procedures.{declares-events}
+use Rattle.b67_list.proofs.Answered.{on_ok}
+use Rattle.algol_scope.proofs.Procedures.{declares_events}
 use Rattle.algol_scope.proofs.resolver.Resolver.events.Goals as goal
 
 pub returns : goal.returns
-returns c = on_ok c.cells.result (λ m later. declares-events c.args.self.now c.cells.new.self c.args.ns.now later m) c.cells.ensures
+returns c = on_ok c.cells.result (λ m later. declares_events c.args.self.now c.cells.new.self c.args.ns.now later m) c.cells.ensures

@@ -1,6 +1,6 @@
-use Rattle.algol_scope.proofs.Walking.{on_ok}
-use Rattle.algol_scope.proofs.Procedures.{declares-files}
+use Rattle.b67_list.proofs.Answered.{on_ok}
+use Rattle.algol_scope.proofs.Procedures.{declares_files}
 use Rattle.algol_scope.proofs.resolver.Resolver.files.Goals as goal
 
 pub returns : goal.returns
-returns c = on_ok c.names.result (λ m later. declares-files c.args.self.now c.names.new.self c.args.ns.now later m) c.names.ensures
+returns c = on_ok c.names.result (λ m later. declares_files c.args.self.now c.names.new.self c.args.ns.now later m) c.names.ensures

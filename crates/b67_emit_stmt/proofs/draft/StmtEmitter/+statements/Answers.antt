@@ -11,11 +11,15 @@ use Rattle.algol_tree.specs.declared.tree.Stmt.{Stmt}
 use Rattle.algol_tree.specs.declared.tree.Stmt as stmts'
 use Rattle.algol_tree.specs.Image.{call, decls, expr, exprs, stmt, stmts, variable}
 use Rattle.algol_tree.specs.Plain as tree
+use Rattle.algol_tree.proofs.Images.{call_is}
 use Rattle.b67_ops.specs.declared.BranchKind.TheVariants.{Brfl, Brtr, Brun}
 use Rattle.b67_ops.specs.declared.TheConstants.{MOST_LEVEL}
 use Rattle.b67_segment.specs.declared.TheConstants.{MOST_SEGMENT_SYLLABLES}
 use Rattle.b67_segment.specs.Operators.{size}
 use Rattle.b67_segment.specs.Building.{Built, level_set}
+use Rattle.b67_segment.proofs.Cited.{set_after}
+use Rattle.algol_scope.proofs.Bodies.{empty_read}
+use Rattle.b67_emitter.proofs.Appends.{same_level}
 use Rattle.b67_emit_stmt.specs.Places.{CasesAt}
 use Rattle.b67_emit_stmt.specs.Fits.{EmittedStmtsFit}
 use Rattle.b67_emit_stmt.specs.declared.draft.Draft.{Draft}
@@ -30,7 +34,7 @@ use Rattle.b67_emit_stmt.proofs.Aims.{body_closed, exits_lie, hole_as}
 use Rattle.b67_emit_stmt.proofs.Arms.{if_then_arm, then_arm, until_arm, while_arm}
 use Rattle.b67_emit_stmt.proofs.Blocked as blocked
 use Rattle.b67_emit_stmt.proofs.Blocks as blocks
-use Rattle.b67_emit_stmt.proofs.Drafts.{at_level, emits_then, hole_there, level_after, level_same, piece}
+use Rattle.b67_emit_stmt.proofs.Drafts.{at_level, emits_then, hole_there, level_after, piece}
 use Rattle.b67_emit_stmt.proofs.Fors as fors
 use Rattle.b67_emit_stmt.proofs.Gathered as gathered
 use Rattle.b67_emit_stmt.proofs.Going.{label_arm, label_piece}
@@ -38,7 +42,7 @@ use Rattle.b67_emit_stmt.proofs.Listed.{StandTogether, done_level, done_set, nex
 use Rattle.b67_emit_stmt.proofs.Levels.{at_after, at_same}
 use Rattle.b67_emit_stmt.proofs.Matched as matched
 use Rattle.b67_emit_stmt.proofs.Notes.{unknown}
-use Rattle.b67_emit_stmt.proofs.Parts.{code_at, on_ok_two, set_same}
+use Rattle.b67_emit_stmt.proofs.Parts.{code_at, on_ok_two}
 use Rattle.b67_emit_stmt.proofs.Ready.{body_piece, branch_piece, fit_after, ready_after, stmt_piece, turn_piece, value_piece}
 use Rattle.b67_emit_stmt.proofs.Shapes as shaped
 use Rattle.b67_emit_stmt.proofs.Stores.{store_emitted, store_fits}
@@ -60,7 +64,7 @@ if_then-stmt-requires g t c =
     let b : Draft = record a { out = c.value.new.out } in
     let d : Draft = record a { out = c.append_exit.new.out; exits = c.append_exit.new.exits } in
     let v = value_piece s a b level sc types.Truth e refl refl refl c.requires.ready.few c.in_ok-value.ensures.code c.in_ok-value.ensures.size c.requires.fits.1.0 in
-    let left = branch_piece sc Brfl b d level (level_same a.out b.out c.in_ok-value.ensures.level) refl v.few c.in_ok-append_exit.ensures.code c.in_ok-append_exit.ensures.size in
+    let left = branch_piece sc Brfl b d level (same_level a.out b.out c.in_ok-value.ensures.level) refl v.few c.in_ok-append_exit.ensures.code c.in_ok-append_exit.ensures.size in
     let both = emits_then v left in
     let ready = ready_after s a (stmt_syllables s (tree.if_then e x)) (stmt_syllables s x) c.requires.ready both (omega arith) in
     search (rules, stmts'.the_lemmas, decls'.the_lemmas, bodies'.the_lemmas, ready, fit_after s sc x both c.requires.fits.1.1, at_after both c.requires.level)
@@ -74,12 +78,12 @@ if_then-returns-clause-code g t c =
     let e = expr c.args.c.now in
     let b : Draft = record a { out = c.value.new.out } in
     let d : Draft = record a { out = c.append_exit.new.out; exits = c.append_exit.new.exits } in
-    let q = level_same a.out b.out c.in_ok-value.ensures.level in
+    let q = same_level a.out b.out c.in_ok-value.ensures.level in
     on_ok_weaker c.stmt.result
     (λ h sc fit.
     let v = value_piece s a b level sc types.Truth e refl refl refl c.requires.ready.few c.in_ok-value.ensures.code c.in_ok-value.ensures.size fit.0 in
     if_then_arm sc level s e x a b d c.stmt.new.to v (branch_piece sc Brfl b d level q refl v.few c.in_ok-append_exit.ensures.code c.in_ok-append_exit.ensures.size)
-    (stmt_piece s sc x d c.stmt.new.to level (level_same b.out d.out c.in_ok-append_exit.ensures.level ∙ q) h fit.1))
+    (stmt_piece s sc x d c.stmt.new.to level (same_level b.out d.out c.in_ok-append_exit.ensures.level ∙ q) h fit.1))
     c.stmt.ensures.code
 
 pub if_then-returns-clause-lines : goal.if_then-returns-clause-lines
@@ -93,7 +97,7 @@ then_part-stmt-requires g t c =
     let e = expr c.args.c.now in
     let b : Draft = record a { out = c.value.new.out } in
     let d : Draft = record a { out = c.append_branch.new.out } in
-    let r = level_same b.out d.out c.in_ok-otherwise.ensures.level ∙ (level_same a.out b.out c.in_ok-value.ensures.level) in
+    let r = same_level b.out d.out c.in_ok-otherwise.ensures.level ∙ (same_level a.out b.out c.in_ok-value.ensures.level) in
     let v = value_piece s a b (level_set a.out) c.requires.fits.0 types.Truth e refl refl refl c.requires.ready.few c.in_ok-value.ensures.code c.in_ok-value.ensures.size c.requires.fits.1 in
     let ready = matched.ready_behind s a d (expr_syllables s e + stmt_syllables s x + 6) (stmt_syllables s x) c.requires.ready (c.in_ok-otherwise.ensures.level ∙ c.in_ok-value.ensures.level) refl
     (omega (arith, v.code.grown, c.in_ok-otherwise.ensures.size)) (omega (arith, c.in_ok-value.ensures.size, c.in_ok-otherwise.ensures.size)) in
@@ -104,7 +108,7 @@ then_part-append_exit-requires g t c =
     let a = c.args.to.now in
     let b : Draft = record a { out = c.value.new.out } in
     let d : Draft = record a { out = c.append_branch.new.out } in
-    let r = level_same b.out d.out c.in_ok-otherwise.ensures.level ∙ level_same a.out b.out c.in_ok-value.ensures.level in
+    let r = same_level b.out d.out c.in_ok-otherwise.ensures.level ∙ same_level a.out b.out c.in_ok-value.ensures.level in
     let part = stmt_piece c.args.self.now.known.now c.requires.fits.0 (stmt c.args.x.now) d c.stmt.new.to (level_set a.out) r c.in_ok-stmt.ensures.code c.requires.fits.2 in
     record {
       set = matched.set_behind c.args.to.now.out part (c.in_ok-otherwise.ensures.level ∙ c.in_ok-value.ensures.level) c.requires.ready.set;
@@ -119,8 +123,8 @@ then_part-aim-requires g t c =
     let d : Draft = record a { out = c.append_branch.new.out } in
     let e = c.stmt.new.to in
     let f : Draft = record e { out = c.append_exit.new.out; exits = c.append_exit.new.exits } in
-    let q = level_same a.out b.out c.in_ok-value.ensures.level in
-    let r = level_same b.out d.out c.in_ok-otherwise.ensures.level ∙ q in
+    let q = same_level a.out b.out c.in_ok-value.ensures.level in
+    let r = same_level b.out d.out c.in_ok-otherwise.ensures.level ∙ q in
     let part = stmt_piece c.args.self.now.known.now c.requires.fits.0 (stmt c.args.x.now) d e level r c.in_ok-stmt.ensures.code c.requires.fits.2 in
     let out = branch_piece c.requires.fits.0 Brun e f level (level_after part ∙ r) refl part.few c.in_ok-append_exit.ensures.code c.in_ok-append_exit.ensures.size in
     hole_there (c.in_ok-otherwise.otherwise ∷ []) b {b = d}
@@ -138,8 +142,8 @@ then_part-returns-clause-code g t c =
     let e = c.stmt.new.to in
     let f : Draft = record e { out = c.append_exit.new.out; exits = c.append_exit.new.exits } in
     let n : Draft = record f { out = c.aim.new.out } in
-    let q = level_same a.out b.out c.in_ok-value.ensures.level in
-    let r = level_same b.out d.out c.in_ok-otherwise.ensures.level ∙ q in
+    let q = same_level a.out b.out c.in_ok-value.ensures.level in
+    let r = same_level b.out d.out c.in_ok-otherwise.ensures.level ∙ q in
     λ sc condition fit.
     let v = value_piece s a b level sc types.Truth p refl refl refl c.requires.ready.few c.in_ok-value.ensures.code c.in_ok-value.ensures.size condition in
     let part = stmt_piece s sc x d e level r c.in_ok-stmt.ensures.code fit in
@@ -182,7 +186,7 @@ while_loop-loop_body-requires g t c =
     let b : Draft = record a { out = c.value.new.out } in
     let d : Draft = record a { out = c.append_exit.new.out; exits = c.append_exit.new.exits } in
     let v = value_piece s a b level sc types.Truth e refl refl refl c.requires.ready.few c.in_ok-value.ensures.code c.in_ok-value.ensures.size c.requires.fits.1.0 in
-    let left = branch_piece sc Brfl b d level (level_same a.out b.out c.in_ok-value.ensures.level) refl v.few c.in_ok-append_exit.ensures.code c.in_ok-append_exit.ensures.size in
+    let left = branch_piece sc Brfl b d level (same_level a.out b.out c.in_ok-value.ensures.level) refl v.few c.in_ok-append_exit.ensures.code c.in_ok-append_exit.ensures.size in
     let both = emits_then v left in
     let ready = ready_after s a (stmt_syllables s (tree.while e x)) (stmt_syllables s x) c.requires.ready both (omega arith) in
     search (rules, stmts'.the_lemmas, decls'.the_lemmas, bodies'.the_lemmas, ready, fit_after s sc x both c.requires.fits.1.1, at_after both c.requires.level)
@@ -193,7 +197,7 @@ while_loop-append_turn-requires g t c =
     let a = c.args.to.now in
     let b : Draft = record a { out = c.value.new.out } in
     let d : Draft = record a { out = c.append_exit.new.out; exits = c.append_exit.new.exits } in
-    let r = level_same b.out d.out c.in_ok-append_exit.ensures.level ∙ level_same a.out b.out c.in_ok-value.ensures.level in
+    let r = same_level b.out d.out c.in_ok-append_exit.ensures.level ∙ same_level a.out b.out c.in_ok-value.ensures.level in
     let part = body_piece s c.requires.fits.0 (stmt c.args.b.now) d c.loop_body.new.to (level_set a.out) r c.in_ok-loop_body.ensures.code c.requires.fits.1.1 in
     let v = value_piece s a b (level_set a.out) c.requires.fits.0 types.Truth (expr c.args.c.now) refl refl refl c.requires.ready.few c.in_ok-value.ensures.code c.in_ok-value.ensures.size c.requires.fits.1.0 in
     record {
@@ -213,8 +217,8 @@ while_loop-returns-clause-code g t c =
     let d : Draft = record a { out = c.append_exit.new.out; exits = c.append_exit.new.exits } in
     let e = c.loop_body.new.to in
     let f : Draft = record e { out = c.append_turn.new.out } in
-    let q = level_same a.out b.out c.in_ok-value.ensures.level in
-    let r = level_same b.out d.out c.in_ok-append_exit.ensures.level ∙ q in
+    let q = same_level a.out b.out c.in_ok-value.ensures.level in
+    let r = same_level b.out d.out c.in_ok-append_exit.ensures.level ∙ q in
     on_ok_two c.append_turn.result
     (λ h wide sc fit.
     let v = value_piece s a b level sc types.Truth p refl refl refl c.requires.ready.few c.in_ok-value.ensures.code c.in_ok-value.ensures.size fit.0 in
@@ -254,10 +258,10 @@ until_loop-returns-clause-code g t c =
     let part = c.in_ok-loop_body.ensures.code sc fit.0 in
     let q = level_after part in
     let v = value_piece c.args.self.now.known.now b d level sc types.Truth p q refl refl part.few c.in_ok-value.ensures.code c.in_ok-value.ensures.size fit.1 in
-    let r = level_same b.out d.out c.in_ok-value.ensures.level ∙ q in
+    let r = same_level b.out d.out c.in_ok-value.ensures.level ∙ q in
     let left = branch_piece sc Brtr d e level r refl v.few c.in_ok-append_exit.ensures.code c.in_ok-append_exit.ensures.size in
     until_arm sc level c.args.self.now.known.now p (stmt c.args.b.now) a b d e f part v left
-    (turn_piece sc a e f c.place-start.result level c.place-start.ensures (level_same d.out e.out c.in_ok-append_exit.ensures.level ∙ r) refl refl left.few h wide))
+    (turn_piece sc a e f c.place-start.result level c.place-start.ensures (same_level d.out e.out c.in_ok-append_exit.ensures.level ∙ r) refl refl left.few h wide))
     c.append_turn.ensures.code c.append_turn.ensures.size
 
 pub until_loop-returns-clause-lines : goal.until_loop-returns-clause-lines
@@ -269,14 +273,14 @@ pub for_loop-difference-requires-clause-fits : goal.for_loop-difference-requires
 for_loop-difference-requires-clause-fits g t c =
     let a = c.args.to.now.out in
     let b = c.assign.new.out in
-    matched.compared_fits c.args.self.now.known.now c.requires.fits.0 (level_set a) c.args.v.now (expr c.args.l.now) (level_set b) (level_same a b c.in_ok-assign.ensures.level) c.requires.fits.1.0.0
+    matched.compared_fits c.args.self.now.known.now c.requires.fits.0 (level_set a) c.args.v.now (expr c.args.l.now) (level_set b) (same_level a b c.in_ok-assign.ensures.level) c.requires.fits.1.0.0
     c.requires.fits.1.3
 
 pub for_loop-step-requires-clause-fits : goal.for_loop-step-requires-clause-fits
 for_loop-step-requires-clause-fits g t c =
     let a = c.args.to.now.out in
     let d = c.difference.new.out in
-    matched.stepped_fits c.args.self.now.known.now c.requires.fits.0 (level_set a) (expr c.args.s.now) (level_set d) (level_same a d (c.in_ok-difference.ensures.level ∙ c.in_ok-assign.ensures.level))
+    matched.stepped_fits c.args.self.now.known.now c.requires.fits.0 (level_set a) (expr c.args.s.now) (level_set d) (same_level a d (c.in_ok-difference.ensures.level ∙ c.in_ok-assign.ensures.level))
     c.requires.fits.1.2
 
 pub for_loop-step-requires-clause-ready : goal.for_loop-step-requires-clause-ready
@@ -409,7 +413,7 @@ case-cases-requires g t c =
     let ready = matched.ready_behind s a b (stmt_syllables s (tree.case (expr c.args.e.now) ss)) (stmts_syllables s ss) c.requires.ready c.in_ok-select.ensures.level refl grown
     (omega (arith, c.in_ok-select.ensures.size)) in
     let F : ℕ → Type 0 = λ l. EmittedStmtsFit c.requires.fits.0 s l ss in
-    let fit : HaveFit s b ss = (c.requires.fits.0, subst F (sym (level_same a.out b.out c.in_ok-select.ensures.level)) c.requires.fits.1.1) in
+    let fit : HaveFit s b ss = (c.requires.fits.0, subst F (sym (same_level a.out b.out c.in_ok-select.ensures.level)) c.requires.fits.1.1) in
     let at = at_same a b c.in_ok-select.ensures.level c.requires.level in
     search (rules, stmts'.the_lemmas, decls'.the_lemmas, bodies'.the_lemmas, ready, fit, at)
 
@@ -421,7 +425,7 @@ case-returns-clause-code g t c =
     let e = expr c.args.e.now in
     let b : Draft = record a { out = c.select.new.out } in
     let d = c.cases.new.to in
-    let q = level_same a.out b.out c.in_ok-select.ensures.level in
+    let q = same_level a.out b.out c.in_ok-select.ensures.level in
     on_ok_weaker c.cases.result
     (λ h sc fit.
     let F : ℕ → Type 0 = λ l. EmittedStmtsFit sc c.args.self.now.known.now l (stmts ss) in
@@ -616,12 +620,12 @@ pub stmt-returns-in-Empty-clause-code : goal.stmt-returns-in-Empty-clause-code
 stmt-returns-in-Empty-clause-code g t c =
     let s = c.args.self.now.known.now in
     let a = c.args.to.now in
-    matched.emits_as s a a (stmt c.args.s.now) tree.empty (shaped.empty_as c.args.s.now c.in-Empty.is) (matched.empty_emitted s a c.requires.ready.few)
+    matched.emits_as s a a (stmt c.args.s.now) tree.empty (empty_read c.args.s.now c.in-Empty.is) (matched.empty_emitted s a c.requires.ready.few)
 
 pub stmt-returns-in-Empty-clause-lines : goal.stmt-returns-in-Empty-clause-lines
 stmt-returns-in-Empty-clause-lines g t c =
     let a = c.args.to.now in
-    added.none_as a a (stmt c.args.s.now) tree.empty (shaped.empty_as c.args.s.now c.in-Empty.is) refl refl refl
+    added.none_as a a (stmt c.args.s.now) tree.empty (empty_read c.args.s.now c.in-Empty.is) refl refl refl
 
 pub stmt-store-requires-clause-fits : goal.stmt-store-requires-clause-fits
 stmt-store-requires-clause-fits g t c =
@@ -938,7 +942,7 @@ inner_block-append_entry-requires g t c =
     let begin = c.in_ok-begin.begin in
     let code = c.in_ok-begin.ensures.code in
     record {
-      set = set_same a.out d.out (blocks.entry_level s ds ss a b over.level over.size c.in_ok-over.over over.place over.code f begin code d c.aim.ensures c.requires.fits) c.requires.ready.set;
+      set = set_after a.out d.out (blocks.entry_level s ds ss a b over.level over.size c.in_ok-over.over over.place over.code f begin code d c.aim.ensures c.requires.fits) c.requires.ready.set;
       inner = blocks.entry_inner s ds ss a b over.level over.size c.in_ok-over.over over.place over.code f begin code d c.aim.ensures c.requires.fits c.args.self.now.level c.requires.level;
       most = c.requires.inner;
       segment = c.requires.ready.segment;
@@ -1022,7 +1026,7 @@ stmt-call-requires-clause-fits g t c =
 pub stmt-call-requires-clause-room : goal.stmt-call-requires-clause-room
 stmt-call-requires-clause-room g t c =
     let k = c.in-Call.c in
-    matched.call_fits c.args.self.now.known.now c.args.to.now (stmt c.args.s.now) (call k) k.name (exprs k.actuals) (shaped.call_as c.args.s.now k c.in-Call.is) (shaped.call_is k) c.requires.ready
+    matched.call_fits c.args.self.now.known.now c.args.to.now (stmt c.args.s.now) (call k) k.name (exprs k.actuals) (shaped.call_as c.args.s.now k c.in-Call.is) (call_is k) c.requires.ready
 
 pub stmt-returns-in-Call-clause-code : goal.stmt-returns-in-Call-clause-code
 stmt-returns-in-Call-clause-code g t c =
@@ -1030,7 +1034,7 @@ stmt-returns-in-Call-clause-code g t c =
     let k = c.in-Call.c in
     let b : Draft = record a { out = c.call.new.out } in
     on_ok_two c.call.result
-    (matched.call_emitted c.args.self.now.known.now a b (stmt c.args.s.now) (call k) k.name (exprs k.actuals) (shaped.call_as c.args.s.now k c.in-Call.is) (shaped.call_is k) refl refl
+    (matched.call_emitted c.args.self.now.known.now a b (stmt c.args.s.now) (call k) k.name (exprs k.actuals) (shaped.call_as c.args.s.now k c.in-Call.is) (call_is k) refl refl
     c.requires.ready.few)
     c.call.ensures.code c.call.ensures.size
 
@@ -1054,7 +1058,7 @@ pub stmt-start-requires-clause-room : goal.stmt-start-requires-clause-room
 stmt-start-requires-clause-room g t c =
     let k = c.in-Process.c in
     let task = c.in-Process.task in
-    matched.start_room c.args.self.now.known.now c.args.to.now (stmt c.args.s.now) (call k) k.name (exprs k.actuals) task (shaped.process_as c.args.s.now k task c.in-Process.is) (shaped.call_is k) c.requires.ready
+    matched.start_room c.args.self.now.known.now c.args.to.now (stmt c.args.s.now) (call k) k.name (exprs k.actuals) task (shaped.process_as c.args.s.now k task c.in-Process.is) (call_is k) c.requires.ready
 
 pub stmt-returns-in-Process-clause-code : goal.stmt-returns-in-Process-clause-code
 stmt-returns-in-Process-clause-code g t c =
@@ -1063,7 +1067,7 @@ stmt-returns-in-Process-clause-code g t c =
     let task = c.in-Process.task in
     let b : Draft = record a { out = c.start.new.out } in
     on_ok_two c.start.result
-    (matched.start_emitted c.args.self.now.known.now a b (stmt c.args.s.now) (call k) k.name (exprs k.actuals) task (shaped.process_as c.args.s.now k task c.in-Process.is) (shaped.call_is k) refl refl
+    (matched.start_emitted c.args.self.now.known.now a b (stmt c.args.s.now) (call k) k.name (exprs k.actuals) task (shaped.process_as c.args.s.now k task c.in-Process.is) (call_is k) refl refl
     c.requires.ready.few)
     c.start.ensures.code c.start.ensures.size
 

@@ -4,17 +4,18 @@ use Rattle.algol_tree.specs.declared.tree.Kind.TheVariants as types
 use Rattle.algol_tree.specs.Image.{expr}
 use Rattle.b67_ops.specs.declared.PlainKind.TheVariants as kinds
 use Rattle.b67_segment.specs.Building.{level_set}
-use Rattle.b67_emit_stmt.proofs.Drafts.{level_same}
+use Rattle.b67_emitter.proofs.Appends.{same_level}
 use Rattle.b67_emit_stmt.specs.Places.{ReadAt}
 use Rattle.b67_segment.specs.Operators.{size}
-use Rattle.b67_emit_stmt.proofs.Parts.{advance_part, code_at, leveled, set_same, variable_at, plain_at, value_at}
+use Rattle.b67_segment.proofs.Cited.{set_after}
+use Rattle.b67_emit_stmt.proofs.Parts.{advance_part, code_at, leveled, variable_at, plain_at, value_at}
 use Rattle.b67_emit_stmt.proofs.draft.StmtEmitter.advance.Goals as goal
 
 pub value-requires-clause-code : goal.value-requires-clause-code
 value-requires-clause-code g c =
     let a = c.args.out.now in
     let b = c.read.new.out in
-    code_at c.args.self.now.known.now (level_set b) (level_set a) c.requires.fits.0 types.Number (expr c.args.s.now) (level_same a b (c.in_ok-read.ensures.level ∙ c.in_ok-reference.ensures.level)) c.requires.fits.2
+    code_at c.args.self.now.known.now (level_set b) (level_set a) c.requires.fits.0 types.Number (expr c.args.s.now) (same_level a b (c.in_ok-read.ensures.level ∙ c.in_ok-reference.ensures.level)) c.requires.fits.2
 
 pub returns-clause-code : goal.returns-clause-code
 returns-clause-code g c =
@@ -24,9 +25,9 @@ returns-clause-code g c =
     let d = c.read.new.out in
     let e = c.value.new.out in
     let x = c.append_plain.new.out in
-    let q = level_same a b c.in_ok-reference.ensures.level in
-    let r = level_same b d c.in_ok-read.ensures.level ∙ q in
-    let t = level_same d e c.in_ok-value.ensures.level ∙ r in
+    let q = same_level a b c.in_ok-reference.ensures.level in
+    let r = same_level b d c.in_ok-read.ensures.level ∙ q in
+    let t = same_level d e c.in_ok-value.ensures.level ∙ r in
     on_ok_weaker c.append_plain-2.result
     (λ h sc later name fit.
     advance_part sc later (level_set a) c.args.v.now (expr c.args.s.now) a b d e x c.append_plain-2.new.out (c.in_ok-reference.ensures.code sc types.Number later name.1)
@@ -34,7 +35,7 @@ returns-clause-code g c =
     (c.in_ok-read.ensures.code sc types.Number later (variable_at s (level_set b) (level_set a) sc c.args.v.now q name).0))
     (value_at s d e (level_set a) sc later types.Number (expr c.args.s.now) r c.in_ok-value.ensures.code fit)
     (plain_at kinds.Add (level_set a) t c.in_ok-append_plain.ensures.code)
-    (plain_at kinds.Stod (level_set a) (level_same e x c.in_ok-append_plain.ensures.level ∙ t) h))
+    (plain_at kinds.Stod (level_set a) (same_level e x c.in_ok-append_plain.ensures.level ∙ t) h))
     c.append_plain-2.ensures.code
 
 pub reference-requires : goal.reference-requires
@@ -51,9 +52,9 @@ read-requires g c =
     let b = c.reference.new.out in
     let sc = c.requires.fits.0 in
     record {
-      set = set_same a b c.in_ok-reference.ensures.level c.requires.set;
+      set = set_after a b c.in_ok-reference.ensures.level c.requires.set;
       near = c.requires.near;
-      fits = (sc, types.Number, (variable_at c.args.self.now.known.now (level_set b) (level_set a) sc c.args.v.now (level_same a b c.in_ok-reference.ensures.level) c.requires.fits.1).0);
+      fits = (sc, types.Number, (variable_at c.args.self.now.known.now (level_set b) (level_set a) sc c.args.v.now (same_level a b c.in_ok-reference.ensures.level) c.requires.fits.1).0);
       room = omega (arith, c.in_ok-reference.ensures.size, c.requires.room);
     }
 

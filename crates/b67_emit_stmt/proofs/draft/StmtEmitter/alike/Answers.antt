@@ -8,10 +8,10 @@ use Rattle.b67_segment.specs.Operators.{size}
 use Rattle.b67_segment.specs.Building.{level_set}
 use Rattle.b67_templates.specs.Emitting.{Emitted}
 use Rattle.b67_templates.specs.Fragments.{AllAt, NumberAt}
+use Rattle.b67_emitter.proofs.Appends.{same_level}
 use Rattle.b67_emit_stmt.specs.Fits.{BoundsFit}
 use Rattle.b67_emit_stmt.specs.Places.{BoundsAt}
 use Rattle.b67_emit_stmt.proofs.Bounds.{arrays_part}
-use Rattle.b67_emit_stmt.proofs.Drafts.{level_same}
 use Rattle.b67_emit_stmt.proofs.Parts.{leveled}
 use Rattle.b67_emit_stmt.proofs.draft.StmtEmitter.alike.Goals as goal
 
@@ -22,7 +22,7 @@ bounds-requires-clause-fits g c =
     let d = c.append_number.new.out in
     let same = c.in_ok-append_number.ensures.level ∙ c.in_ok-append_intrinsic.ensures.code.level in
     let F : ℕ → Type 0 = λ l. BoundsFit c.requires.fits.0 s l (pairs c.args.pairs.now) in
-    (c.requires.fits.0, subst F (sym (level_same a d same)) c.requires.fits.1)
+    (c.requires.fits.0, subst F (sym (same_level a d same)) c.requires.fits.1)
 
 pub returns-clause-code : goal.returns-clause-code
 returns-clause-code g c =
@@ -35,9 +35,9 @@ returns-clause-code g c =
     let x = c.bounds.new.out in
     let y = c.append_all.new.out in
     let level = level_set a in
-    let q = level_same a b c.in_ok-append_intrinsic.ensures.code.level in
-    let r = level_same b d c.in_ok-append_number.ensures.level ∙ q in
-    let t = level_same d x c.in_ok-bounds.ensures.level ∙ r in
+    let q = same_level a b c.in_ok-append_intrinsic.ensures.code.level in
+    let r = same_level b d c.in_ok-append_number.ensures.level ∙ q in
+    let t = same_level d x c.in_ok-bounds.ensures.level ∙ r in
     let number : c.fitting.result ≡ pos many = omega (arith, ints, c.fitting.ensures, c.requires.few) in
     let N : ℤ → Type 0 = λ z. Emitted b d (λ qs. NumberAt qs level z (size b.operators) (size d.operators)) in
     on_ok_weaker c.append_all.result

@@ -7,12 +7,13 @@ use Rattle.algol_tree.specs.declared.tree.Pair.{Pair}
 use Rattle.algol_tree.specs.Image.{expr, pairs}
 use Rattle.b67_segment.specs.Operators.{size}
 use Rattle.b67_segment.specs.Building.{level_set}
+use Rattle.b67_segment.proofs.Cited.{set_after}
 use Rattle.b67_templates.specs.Emitting.{Emitted}
 use Rattle.b67_templates.specs.Fragments.{IsWholeNumber, NumberAt}
+use Rattle.b67_emitter.proofs.Appends.{same_level}
 use Rattle.b67_emit_stmt.specs.Lengths.{bounds_syllables}
 use Rattle.b67_emit_stmt.proofs.Bounds.{BoundsLeft, bounds_more, bounds_next, bounds_whole, whole_fits}
-use Rattle.b67_emit_stmt.proofs.Drafts.{level_same}
-use Rattle.b67_emit_stmt.proofs.Parts.{code_at, emitted_none, leveled, set_same, value_at}
+use Rattle.b67_emit_stmt.proofs.Parts.{code_at, emitted_none, leveled, value_at}
 use Rattle.b67_emit_stmt.proofs.draft.StmtEmitter.bounds.Goals as goal
 
 pub pairs-init : goal.pairs-init
@@ -31,7 +32,7 @@ fitting-requires g c =
     subst IsWholeNumber (sym (to_z-of_z w64 p.low (whole_fits p.low whole))) whole
 
 pub append_number-requires-clause-set : goal.append_number-requires-clause-set
-append_number-requires-clause-set g c = set_same c.args.out.now c.pairs.out c.pairs.invariant.level c.requires.set
+append_number-requires-clause-set g c = set_after c.args.out.now c.pairs.out c.pairs.invariant.level c.requires.set
 
 pub append_number-requires-clause-room : goal.append_number-requires-clause-room
 append_number-requires-clause-room g c =
@@ -53,9 +54,9 @@ value-requires g c =
     let next : drop i ps ≡ p ∷ drop (i + 1) ps = drop_more ps i p c.pairs-test.true ∙ ap (λ x. x ∷ drop (i + 1) ps) (sym c.pair-item.is) in
     let same = c.in_ok-append_number.ensures.level ∙ c.pairs.invariant.level in
     record {
-      set = set_same a d same c.requires.set;
+      set = set_after a d same c.requires.set;
       near = c.requires.near;
-      code = code_at s (level_set d) (level_set a) c.requires.fits.0 types.Number (expr p.high) (level_same a d same)
+      code = code_at s (level_set d) (level_set a) c.requires.fits.0 types.Number (expr p.high) (same_level a d same)
           (bounds_next c.requires.fits.0 s (level_set a) i ps p (drop (i + 1) ps) next c.requires.fits.1).1;
       room = omega (arith, ap (λ (l : List Pair). bounds_syllables c.args.self.now.known.now (pairs l)) next, c.pairs.invariant.short, c.in_ok-append_number.ensures.size, c.requires.room);
     }
@@ -72,7 +73,7 @@ pairs-preserved g c =
     let i = c.pairs.pair-index in
     let p = c.pair-item.result in
     let next : drop i ps ≡ p ∷ drop (i + 1) ps = drop_more ps i p c.pairs-test.true ∙ ap (λ x. x ∷ drop (i + 1) ps) (sym c.pair-item.is) in
-    let q = level_same a b c.pairs.invariant.level in
+    let q = same_level a b c.pairs.invariant.level in
     let whole = (bounds_next c.requires.fits.0 s level i ps p (drop (i + 1) ps) next c.requires.fits.1).0 in
     record {
       level = c.in_ok-value.ensures.level ∙ c.in_ok-append_number.ensures.level ∙ c.pairs.invariant.level;
@@ -81,7 +82,7 @@ pairs-preserved g c =
           let N : ℤ → Type 0 = λ z. Emitted b d (λ qs. NumberAt qs level z (size b.operators) (size d.operators)) in
           bounds_more sc later level ps (drop i ps) p (drop (i + 1) ps) a b d x next (c.pairs.invariant.code sc later fit)
           (subst N (c.fitting.ensures ∙ to_z-of_z w64 p.low (whole_fits p.low whole)) (leveled (λ l qs. NumberAt qs l c.fitting.result (size b.operators) (size d.operators)) level q c.in_ok-append_number.ensures.code))
-          (value_at s d x level sc later types.Number (expr p.high) (level_same b d c.in_ok-append_number.ensures.level ∙ q) c.in_ok-value.ensures.code
+          (value_at s d x level sc later types.Number (expr p.high) (same_level b d c.in_ok-append_number.ensures.level ∙ q) c.in_ok-value.ensures.code
           (bounds_next sc s level i ps p (drop (i + 1) ps) next fit).1);
     }
 

@@ -2,10 +2,10 @@ use Rattle.std.proofs.Common.{◌∙◌, ap}
 use Rattle.std.proofs.lemmas.Result.{on_ok_weaker}
 use Rattle.std.specs.Prelude.{Option, is_some}
 use Rattle.algol_tree.specs.Image.{call, exprs}
+use Rattle.algol_tree.proofs.Images.{call_is}
 use Rattle.b67_ops.specs.declared.Couple.{Couple}
 use Rattle.b67_segment.specs.Building.{level_set}
 use Rattle.b67_emit_stmt.proofs.Calls.{call_has, call_part}
-use Rattle.b67_emit_stmt.proofs.Shapes.{call_is}
 use Rattle.b67_emit_stmt.proofs.draft.StmtEmitter.call.Goals as goal
 
 pub call-requires-clause-code : goal.call-requires-clause-code

@@ -8,11 +8,11 @@ use Rattle.b67_templates.specs.Cells.{procedures, control_segments}
 use Rattle.b67_templates.specs.Code.{routine_controls}
 use Rattle.b67_templates.specs.Emitting.{Emitted}
 use Rattle.b67_templates.specs.Fragments.{AllAt, ControlsAt}
+use Rattle.b67_emitter.proofs.Appends.{same_level}
 use Rattle.b67_emit_stmt.specs.declared.draft.Draft.{Draft}
 use Rattle.b67_emit_stmt.specs.Actuals.{images}
 use Rattle.b67_emit_stmt.specs.Lengths.{cells_syllables}
 use Rattle.b67_emit_stmt.proofs.Blocks.{as_many, images_long}
-use Rattle.b67_emit_stmt.proofs.Drafts.{level_same}
 use Rattle.b67_emit_stmt.proofs.Numbered.{controls_many}
 use Rattle.b67_emit_stmt.proofs.Parts.{leveled, plain_at}
 use Rattle.b67_emit_stmt.proofs.Zeros.{cells_pushed, no_cells, words_both}
@@ -25,7 +25,7 @@ pub procedure_words-requires-clause-level : goal.procedure_words-requires-clause
 procedure_words-requires-clause-level g c =
     let a = c.args.to.now in
     let set : level_set a.out ≡ c.args.self.now.level = ap (λ (o : Option ℕ). unwrap_or o 0) c.requires.level.set in
-    sym (level_same a.out c.append_zeros.new.out c.in_ok-append_zeros.ensures.level ∙ set)
+    sym (same_level a.out c.append_zeros.new.out c.in_ok-append_zeros.ensures.level ∙ set)
 
 pub procedure_words-requires-clause-room : goal.procedure_words-requires-clause-room
 procedure_words-requires-clause-room g c = omega (arith, c.in_ok-append_zeros.ensures.size, c.requires.room)
@@ -36,7 +36,7 @@ routine_words-requires-clause-level g c =
     let b = c.append_zeros.new.out in
     let e = c.procedure_words.new.out in
     let set : level_set a.out ≡ c.args.self.now.level = ap (λ (o : Option ℕ). unwrap_or o 0) c.requires.level.set in
-    sym (level_same b e c.in_ok-procedures.ensures.level ∙ level_same a.out b c.in_ok-append_zeros.ensures.level ∙ set)
+    sym (same_level b e c.in_ok-procedures.ensures.level ∙ same_level a.out b c.in_ok-append_zeros.ensures.level ∙ set)
 
 pub routine_words-requires-clause-room : goal.routine_words-requires-clause-room
 routine_words-requires-clause-room g c =
@@ -55,9 +55,9 @@ returns-in_ok-append_plain-clause-code g c =
     let e = c.procedure_words.new.out in
     let x = c.routine_words.new.out in
     let set : level_set a.out ≡ level = ap (λ (o : Option ℕ). unwrap_or o 0) c.requires.level.set in
-    let q : level_set b ≡ level = level_same a.out b c.in_ok-append_zeros.ensures.level ∙ set in
-    let r : level_set e ≡ level = level_same b e c.in_ok-procedures.ensures.level ∙ q in
-    let v : level_set x ≡ level = level_same e x c.in_ok-routine_words.ensures.level ∙ r in
+    let q : level_set b ≡ level = same_level a.out b c.in_ok-append_zeros.ensures.level ∙ set in
+    let r : level_set e ≡ level = same_level b e c.in_ok-procedures.ensures.level ∙ q in
+    let v : level_set x ≡ level = same_level e x c.in_ok-routine_words.ensures.level ∙ r in
     let imaged = images_long c.args.actuals.now in
     let d : Draft = record a { out = c.append_plain.new.out } in
     λ sc actuals segment trees numbered.

@@ -4,11 +4,11 @@ use Rattle.std.proofs.lemmas.List.Elements.{All-nil, All-same}
 use Rattle.algol_tree.specs.Image.{expr}
 use Rattle.b67_segment.specs.declared.TheConstants.{MOST_SEGMENT_SYLLABLES}
 use Rattle.b67_templates.specs.Cells.{has_place}
+use Rattle.b67_emitter.proofs.Appends.{same_level}
 use Rattle.b67_emit_stmt.specs.Lengths.{expr_syllables}
 use Rattle.b67_segment.specs.Building.{level_set}
+use Rattle.b67_segment.proofs.Cited.{set_after}
 use Rattle.b67_emit_stmt.proofs.Coded.{all_more, codes_begun, codes_ended, codes_more, next_code, next_length, some_code}
-use Rattle.b67_emit_stmt.proofs.Drafts.{level_same}
-use Rattle.b67_emit_stmt.proofs.Parts.{set_same}
 use Rattle.b67_emit_stmt.proofs.draft.StmtEmitter.codes.Goals as goal
 
 pub actuals-init : goal.actuals-init
@@ -33,9 +33,9 @@ routine-requires g c =
     let x = c.actual-item.result in
     let next : drop i xs ≡ x ∷ drop (i + 1) xs = drop_more xs i x c.actuals-test.true ∙ ap (λ y. y ∷ drop (i + 1) xs) (sym c.actual-item.is) in
     record {
-      set = set_same a b c.actuals.invariant.level c.requires.set;
+      set = set_after a b c.actuals.invariant.level c.requires.set;
       near = c.requires.near;
-      code = next_code s level xs c.requires.fits.0 c.requires.fits.1 c.requires.fits.2 i x (drop (i + 1) xs) next (level_set b) (omega (arith, level_same a b c.actuals.invariant.level, c.requires.inner));
+      code = next_code s level xs c.requires.fits.0 c.requires.fits.1 c.requires.fits.2 i x (drop (i + 1) xs) next (level_set b) (omega (arith, same_level a b c.actuals.invariant.level, c.requires.inner));
       room = omega (arith, next_length s level xs i x (drop (i + 1) xs) next, c.actuals.invariant.short, c.requires.room);
     }
 

@@ -6,7 +6,7 @@ use Rattle.b67_segment.specs.Operators.{size}
 use Rattle.b67_segment.specs.Building.{Built, level_set}
 use Rattle.b67_templates.specs.Emitting.{Emitted}
 use Rattle.b67_templates.specs.Fragments.{NumberAt}
-use Rattle.b67_emit_stmt.proofs.Drafts.{level_same}
+use Rattle.b67_emitter.proofs.Appends.{same_level}
 use Rattle.b67_emit_stmt.proofs.Going.{go_to_part, target_known}
 use Rattle.b67_emit_stmt.proofs.Parts.{leveled, plain_at}
 use Rattle.b67_emit_stmt.proofs.draft.StmtEmitter.go_to.Goals as goal
@@ -23,10 +23,10 @@ returns-clause-code g c =
     let f = c.append_number-3.new.out in
     let level = level_set a in
     let target = c.target_of-target.result in
-    let q = level_same a b c.in_ok-append_intrinsic.ensures.level in
-    let r = level_same b d c.in_ok-append_number.ensures.level ∙ q in
-    let t = level_same d e c.in_ok-append_number-2.ensures.level ∙ r in
-    let u = level_same e f c.in_ok-append_number-3.ensures.level ∙ t in
+    let q = same_level a b c.in_ok-append_intrinsic.ensures.level in
+    let r = same_level b d c.in_ok-append_number.ensures.level ∙ q in
+    let t = same_level d e c.in_ok-append_number-2.ensures.level ∙ r in
+    let u = same_level e f c.in_ok-append_number-3.ensures.level ∙ t in
     let first : c.fitting.result ≡ pos target.level = omega (arith, ints, c.fitting.ensures) in
     let second : c.fitting-2.result ≡ pos target.segment = omega (arith, ints, c.fitting-2.ensures) in
     let third : c.fitting-3.result ≡ pos target.entry = omega (arith, ints, c.fitting-3.ensures) in

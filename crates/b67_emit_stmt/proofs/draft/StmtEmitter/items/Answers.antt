@@ -5,14 +5,15 @@ use Rattle.algol_tree.specs.declared.tree.Kind.TheVariants as types
 use Rattle.algol_tree.specs.Image.{expr, exprs}
 use Rattle.b67_segment.specs.Operators.{size}
 use Rattle.b67_segment.specs.Building.{level_set}
+use Rattle.b67_segment.proofs.Cited.{set_after}
+use Rattle.b67_emitter.proofs.Appends.{same_level}
 use Rattle.b67_emit_stmt.specs.Places.{LineAt}
 use Rattle.b67_emit_stmt.specs.Fits.{LineFits}
 use Rattle.b67_emit_stmt.specs.Lengths.{items_syllables}
 use Rattle.b67_templates.specs.Emitting.{Emitted}
-use Rattle.b67_emit_stmt.proofs.Drafts.{level_same}
 use Rattle.b67_emit_stmt.proofs.Lines.{line_fits, line_part, line_syllables}
 use Rattle.b67_emit_stmt.proofs.Lists.{around, front_more}
-use Rattle.b67_emit_stmt.proofs.Parts.{code_at, emitted_none, set_same, value_at}
+use Rattle.b67_emit_stmt.proofs.Parts.{code_at, emitted_none, value_at}
 use Rattle.b67_emit_stmt.proofs.draft.StmtEmitter.items.Goals as goal
 
 pub items-init : goal.items-init
@@ -23,7 +24,7 @@ items-init g c = record {
 }
 
 pub value-requires-clause-set : goal.value-requires-clause-set
-value-requires-clause-set g c = set_same c.args.out.now c.items.out c.items.invariant.level c.requires.set
+value-requires-clause-set g c = set_after c.args.out.now c.items.out c.items.invariant.level c.requires.set
 
 pub value-requires-clause-code : goal.value-requires-clause-code
 value-requires-clause-code g c =
@@ -34,7 +35,7 @@ value-requires-clause-code g c =
     let x = c.item-item.result in
     let sc = c.requires.fits.0 in
     let F : List Expr → Type 0 = λ l. LineFits sc s level (exprs l) in
-    code_at s (level_set c.items.out) level sc types.Number (expr x) (level_same c.args.out.now c.items.out c.items.invariant.level)
+    code_at s (level_set c.items.out) level sc types.Number (expr x) (same_level c.args.out.now c.items.out c.items.invariant.level)
     (line_fits sc s level (take i xs) x (drop (i + 1) xs) (subst F (around xs i x c.items-test.true c.item-item.is) c.requires.fits.1))
 
 pub value-requires-clause-room : goal.value-requires-clause-room
@@ -55,7 +56,7 @@ items-preserved g c =
     let i = c.items.item-index in
     let x = c.item-item.result in
     let more = front_more xs i x c.items-test.true c.item-item.is in
-    let q = level_same a b c.items.invariant.level in
+    let q = same_level a b c.items.invariant.level in
     record {
       level = c.in_ok-value.ensures.level ∙ c.items.invariant.level;
       short = omega (arith, ap (λ (l : List Expr). items_syllables c.args.self.now.known.now (exprs l)) more, line_syllables c.args.self.now.known.now (take i xs) x [], c.in_ok-value.ensures.size, c.items.invariant.short);

@@ -4,11 +4,12 @@ use Rattle.std.proofs.lemmas.List.{drop_more}
 use Rattle.algol_tree.specs.Image.{decl}
 use Rattle.b67_segment.specs.Operators.{size}
 use Rattle.b67_segment.specs.Building.{level_set}
+use Rattle.b67_segment.proofs.Cited.{set_after}
+use Rattle.b67_emitter.proofs.Appends.{same_level}
 use Rattle.b67_emit_stmt.specs.Fits.{DeclsFit}
 use Rattle.b67_emit_stmt.specs.Places.{DeclsAt, only}
-use Rattle.b67_emit_stmt.proofs.Drafts.{level_same}
 use Rattle.b67_emit_stmt.proofs.Made.{DeclsLeft, decls_more, decls_whole, left_many, left_room, next_fits}
-use Rattle.b67_emit_stmt.proofs.Parts.{emitted_none, leveled, set_same}
+use Rattle.b67_emit_stmt.proofs.Parts.{emitted_none, leveled}
 use Rattle.b67_emit_stmt.proofs.draft.StmtEmitter.make_all.Goals as goal
 
 pub decls-init : goal.decls-init
@@ -30,10 +31,10 @@ make-requires g c =
     let sc = c.requires.fits.0 in
     let F : ℕ → Type 0 = λ l. DeclsFit sc s l (only (decl d)) in
     record {
-      set = set_same a b c.decls.invariant.level_is c.requires.set;
+      set = set_after a b c.decls.invariant.level_is c.requires.set;
       near = c.requires.near;
       few = omega (arith, left_many d (drop i ds) rest next, c.decls.invariant.few);
-      fits = (sc, subst F (sym (level_same a b c.decls.invariant.level_is)) (next_fits sc s (level_set a) i ds d rest next c.requires.fits.1));
+      fits = (sc, subst F (sym (same_level a b c.decls.invariant.level_is)) (next_fits sc s (level_set a) i ds d rest next c.requires.fits.1));
       room = omega (arith, left_room d (drop i ds) rest next s, c.decls.invariant.short, c.requires.room);
     }
 
@@ -49,7 +50,7 @@ decls-preserved g c =
     let d = c.d-item.result in
     let rest = drop (i + 1) ds in
     let next : drop i ds ≡ d ∷ rest = drop_more ds i d c.decls-test.true ∙ ap (λ x. x ∷ rest) (sym c.d-item.is) in
-    let q = level_same a b c.decls.invariant.level_is in
+    let q = same_level a b c.decls.invariant.level_is in
     let made = c.in_ok-make.ensures in
     record {
       level_is = made.level ∙ c.decls.invariant.level_is;

@@ -1,6 +1,6 @@
 use Rattle.std.proofs.Common.{◌≡◌, ◌+◌, ◌<◌, ◌∷◌, ◌∙◌, length, drop, get_or, sym, ap, arith}
 use Rattle.std.proofs.lemmas.List.{drop_more}
-use Rattle.b67_emit_stmt.proofs.Drafts.{level_same}
+use Rattle.b67_emitter.proofs.Appends.{same_level}
 use Rattle.b67_emit_stmt.proofs.Worded.{words_more}
 use Rattle.b67_emit_stmt.proofs.draft.StmtEmitter.routine_words.Goals as goal
 
@@ -21,5 +21,5 @@ words-preserved g c =
       level = c.in_ok-append_routine.ensures.level ∙ c.words.invariant.level;
       short = omega (arith, c.words.invariant.short, c.in_ok-append_routine.ensures.size);
       code = words_more s level xs ats i x (drop (i + 1) xs) (get_or ats i 0) (drop (i + 1) ats) next place c.has_place.result c.has_place.ensures a b c.append_routine.new.out
-          (level_same a b c.words.invariant.level ∙ sym c.requires.level) c.words.invariant.code c.in_ok-append_routine.ensures.code;
+          (same_level a b c.words.invariant.level ∙ sym c.requires.level) c.words.invariant.code c.in_ok-append_routine.ensures.code;
     }

@@ -8,21 +8,22 @@ use Rattle.b67_ops.specs.declared.PlainKind.TheVariants as kinds
 use Rattle.b67_ops.specs.Spelling.{spelling}
 use Rattle.b67_segment.specs.Operators.{size}
 use Rattle.b67_segment.specs.Building.{level_set}
+use Rattle.b67_segment.proofs.Cited.{set_after}
 use Rattle.b67_templates.specs.Fragments.{Has, NumberAt}
 use Rattle.b67_templates.specs.Emitting.{Emitted}
-use Rattle.b67_emit_stmt.proofs.Drafts.{level_same}
-use Rattle.b67_emit_stmt.proofs.Parts.{code_at, leveled, on_ok_two, plain_at, set_same, value_at}
+use Rattle.b67_emitter.proofs.Appends.{same_level}
+use Rattle.b67_emit_stmt.proofs.Parts.{code_at, leveled, on_ok_two, plain_at, value_at}
 use Rattle.b67_emit_stmt.proofs.Tables.{select_part}
 use Rattle.b67_emit_stmt.proofs.draft.StmtEmitter.select.Goals as goal
 
 pub value-requires-clause-set : goal.value-requires-clause-set
-value-requires-clause-set g c = set_same c.args.out.now c.append_intrinsic.new.out c.in_ok-append_intrinsic.ensures.code.level c.requires.set
+value-requires-clause-set g c = set_after c.args.out.now c.append_intrinsic.new.out c.in_ok-append_intrinsic.ensures.code.level c.requires.set
 
 pub value-requires-clause-code : goal.value-requires-clause-code
 value-requires-clause-code g c =
     let a = c.args.out.now in
     let b = c.append_intrinsic.new.out in
-    code_at c.args.self.now.known.now (level_set b) (level_set a) c.requires.fits.0 types.Number (expr c.args.e.now) (level_same a b c.in_ok-append_intrinsic.ensures.code.level)
+    code_at c.args.self.now.known.now (level_set b) (level_set a) c.requires.fits.0 types.Number (expr c.args.e.now) (same_level a b c.in_ok-append_intrinsic.ensures.code.level)
     c.requires.fits.1
 
 pub returns-clause-code : goal.returns-clause-code
@@ -38,10 +39,10 @@ returns-clause-code g c =
     let many = c.args.many in
     let place = c.place-table.result + 4 in
     let level = level_set a in
-    let q = level_same a b c.in_ok-append_intrinsic.ensures.code.level in
-    let r = level_same b d c.in_ok-value.ensures.level ∙ q in
-    let t = level_same d x c.in_ok-append_number.ensures.level ∙ r in
-    let u = level_same x y c.in_ok-append_operator.ensures.level ∙ t in
+    let q = same_level a b c.in_ok-append_intrinsic.ensures.code.level in
+    let r = same_level b d c.in_ok-value.ensures.level ∙ q in
+    let t = same_level d x c.in_ok-append_number.ensures.level ∙ r in
+    let u = same_level x y c.in_ok-append_operator.ensures.level ∙ t in
     let number : c.fitting.result ≡ pos many = omega (arith, ints, c.fitting.ensures, c.requires.few) in
     let three : length (spelling (size x.operators) (level_set x) (ops.Lt16 place)) ≡ 3 = refl in
     let N : ℤ → Type 0 = λ v. Emitted d x (λ qs. NumberAt qs level v (size d.operators) (size x.operators)) in

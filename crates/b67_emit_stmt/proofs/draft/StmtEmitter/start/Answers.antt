@@ -2,6 +2,7 @@ use Rattle.std.proofs.Common.{◌≡◌, ℕ, ◌∙◌, subst, sym, arith}
 use Rattle.std.proofs.lemmas.Result.{on_ok_weaker}
 use Rattle.algol_tree.specs.Image.{call, exprs}
 use Rattle.algol_tree.specs.Blocks.{block_numbered}
+use Rattle.algol_tree.proofs.Images.{call_is}
 use Rattle.algol_meaning.specs.Settle.{sorts_of}
 use Rattle.b67_ops.specs.declared.Operator.TheVariants as ops
 use Rattle.b67_ops.specs.declared.PlainKind.TheVariants as kinds
@@ -11,10 +12,9 @@ use Rattle.b67_templates.specs.Cells.{parameter_wants}
 use Rattle.b67_templates.specs.Code.{ActualsAt}
 use Rattle.b67_templates.specs.Events.{TaskAt}
 use Rattle.b67_templates.specs.Fragments.{Has}
+use Rattle.b67_emitter.proofs.Appends.{same_level}
 use Rattle.b67_emit_stmt.specs.Places.{context_in}
-use Rattle.b67_emit_stmt.proofs.Drafts.{level_same}
 use Rattle.b67_emit_stmt.proofs.Parts.{leveled}
-use Rattle.b67_emit_stmt.proofs.Shapes.{call_is}
 use Rattle.b67_emit_stmt.proofs.Starts.{filled_less, started_known, started_seen, actuals_have, task_has, start_part}
 use Rattle.b67_emit_stmt.proofs.draft.StmtEmitter.start.Goals as goal
 
@@ -26,7 +26,7 @@ couple_of-requires g c =
 pub append_reference-requires-clause-seen : goal.append_reference-requires-clause-seen
 append_reference-requires-clause-seen g c =
     let k = c.args.c.now in
-    rw (level_same c.args.out.now c.append_intrinsic.new.out c.in_ok-append_intrinsic.ensures.level)
+    rw (same_level c.args.out.now c.append_intrinsic.new.out c.in_ok-append_intrinsic.ensures.level)
     (started_seen c.args.self.now.known.now c.requires.fits.0 (level_set c.args.out.now) k.name (exprs k.actuals) c.args.task.now c.requires.fits.1 c.couple_of.result c.requires.near c.couple_of.ensures)
 
 pub append_task-requires-clause-code : goal.append_task-requires-clause-code
@@ -36,7 +36,7 @@ append_task-requires-clause-code g c =
     let b = c.append_intrinsic.new.out in
     let d = c.append_reference.new.out in
     task_has c.args.self.now.known.now c.requires.fits.0 (level_set a) k.name (exprs k.actuals) c.args.task.now c.requires.fits.1 (level_set d)
-    (level_same b d c.in_ok-append_reference.ensures.level ∙ level_same a b c.in_ok-append_intrinsic.ensures.level)
+    (same_level b d c.in_ok-append_reference.ensures.level ∙ same_level a b c.in_ok-append_intrinsic.ensures.level)
 
 pub append_task-requires-clause-room : goal.append_task-requires-clause-room
 append_task-requires-clause-room g c =
@@ -51,7 +51,7 @@ filled-requires-clause-code g c =
     let d = c.append_reference.new.out in
     let e = c.append_task.new.out in
     actuals_have c.args.self.now.known.now c.requires.fits.0 (level_set a) k.name (exprs k.actuals) c.args.task.now c.requires.fits.1 (level_set e) (call k)
-    (level_same d e c.in_ok-append_task.ensures.level ∙ level_same b d c.in_ok-append_reference.ensures.level ∙ level_same a b c.in_ok-append_intrinsic.ensures.level) (call_is k)
+    (same_level d e c.in_ok-append_task.ensures.level ∙ same_level b d c.in_ok-append_reference.ensures.level ∙ same_level a b c.in_ok-append_intrinsic.ensures.level) (call_is k)
 
 pub filled-requires-clause-room : goal.filled-requires-clause-room
 filled-requires-clause-room g c =
@@ -90,9 +90,9 @@ returns-clause-code g c =
     let e = c.append_task.new.out in
     let f = c.filled.new.out in
     let level = level_set a in
-    let q = level_same a b c.in_ok-append_intrinsic.ensures.level in
-    let r = level_same b d c.in_ok-append_reference.ensures.level ∙ q in
-    let u = level_same d e c.in_ok-append_task.ensures.level ∙ r in
+    let q = same_level a b c.in_ok-append_intrinsic.ensures.level in
+    let r = same_level b d c.in_ok-append_reference.ensures.level ∙ q in
+    let u = same_level d e c.in_ok-append_task.ensures.level ∙ r in
     on_ok_weaker c.filled.result
     (λ h sc later fit.
     let sorts = sorts_of ((block_numbered sc.scopes.blocks fit.0).parameters) in

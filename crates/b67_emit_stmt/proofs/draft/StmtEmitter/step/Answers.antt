@@ -5,10 +5,11 @@ use Rattle.algol_tree.specs.declared.tree.Kind.TheVariants as types
 use Rattle.algol_tree.specs.Image.{expr}
 use Rattle.b67_segment.specs.Building.{level_set}
 use Rattle.b67_segment.specs.Operators.{size}
+use Rattle.b67_emitter.proofs.Appends.{same_level}
 use Rattle.b67_emit_stmt.specs.Places.{PastAt, context_in}
 use Rattle.b67_emit_stmt.specs.Lengths.{expr_syllables}
 use Rattle.b67_emit_stmt.specs.declared.draft.Draft.{Draft}
-use Rattle.b67_emit_stmt.proofs.Drafts.{at_level, level_same, piece}
+use Rattle.b67_emit_stmt.proofs.Drafts.{at_level, piece}
 use Rattle.b67_emit_stmt.proofs.Notes.{unknown}
 use Rattle.b67_emit_stmt.proofs.Parts.{value_at}
 use Rattle.b67_emit_stmt.proofs.Steps.{any_part, literal_part}
@@ -33,7 +34,7 @@ returns-in_ok-value-in-None-clause-code g c =
     let a = c.args.to.now in
     let b : Draft = record a { out = c.value.new.out } in
     let d = c.append_past.new.to in
-    let q = level_same a.out b.out c.in_ok-value-in-None.ensures.level in
+    let q = same_level a.out b.out c.in_ok-value-in-None.ensures.level in
     on_ok_weaker c.append_past.result
     (λ h sc fit.
     any_part sc (level_set a.out) a b d (13 + expr_syllables c.args.self.now.known.now (expr c.args.s.now)) (expr c.args.s.now) (omega arith)

@@ -1,7 +1,7 @@
 use Rattle.std.proofs.lemmas.Result.{on_ok_weaker}
 use Rattle.algol_tree.specs.Image.{expr, variable}
 use Rattle.b67_segment.specs.Building.{level_set}
-use Rattle.b67_emit_stmt.proofs.Drafts.{level_same}
+use Rattle.b67_emitter.proofs.Appends.{same_level}
 use Rattle.b67_emit_stmt.proofs.Parts.{code_at}
 use Rattle.b67_emit_stmt.proofs.Stores.{store_has, store_part, store_value}
 use Rattle.b67_emit_stmt.proofs.draft.StmtEmitter.store.Goals as goal
@@ -16,7 +16,7 @@ value-requires-clause-code g c =
     let a = c.args.out.now in
     let b = c.name.new.out in
     let value = store_value s c.requires.fits.0 (level_set a) (variable c.args.v.now) (expr c.args.e.now) c.requires.fits.1 in
-    code_at s (level_set b) (level_set a) c.requires.fits.0 value.0 (expr c.args.e.now) (level_same a b c.in_ok-name.ensures.level) value.1
+    code_at s (level_set b) (level_set a) c.requires.fits.0 value.0 (expr c.args.e.now) (same_level a b c.in_ok-name.ensures.level) value.1
 
 pub returns-clause-code : goal.returns-clause-code
 returns-clause-code g c =

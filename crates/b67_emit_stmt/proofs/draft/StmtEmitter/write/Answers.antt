@@ -5,6 +5,8 @@ use Rattle.algol_tree.specs.Image.{exprs}
 use Rattle.b67_ops.specs.declared.PlainKind.TheVariants as kinds
 use Rattle.b67_segment.specs.Operators.{size}
 use Rattle.b67_segment.specs.Building.{level_set}
+use Rattle.b67_segment.proofs.Cited.{set_after}
+use Rattle.b67_emitter.proofs.Appends.{same_level}
 use Rattle.b67_emit_stmt.specs.Places.{LineAt}
 use Rattle.b67_emit_stmt.specs.Fits.{LineFits}
 use Rattle.b67_templates.specs.Fragments.{NumberAt}
@@ -13,9 +15,8 @@ use Rattle.b67_emit_stmt.specs.declared.draft.Draft.{Draft}
 use Rattle.b67_emit_stmt.specs.Drafts.{spots_of}
 use Rattle.b67_emit_stmt.specs.Lengths.{write_syllables}
 use Rattle.b67_emit_stmt.proofs.Added.{format_is}
-use Rattle.b67_emit_stmt.proofs.Drafts.{level_same}
 use Rattle.b67_emit_stmt.proofs.Notes.{unknown}
-use Rattle.b67_emit_stmt.proofs.Parts.{leveled, plain_at, set_same}
+use Rattle.b67_emit_stmt.proofs.Parts.{leveled, plain_at}
 use Rattle.b67_emit_stmt.proofs.Writing.{write_part}
 use Rattle.b67_emit_stmt.proofs.draft.StmtEmitter.write.Goals as goal
 
@@ -29,9 +30,9 @@ returns-clause-code g c =
     let e : Draft = record a { out = c.items.new.out } in
     let f : Draft = record a { out = c.append_plain.new.out; formats = c.push.new.self } in
     let level = level_set a.out in
-    let q = level_same a.out b.out c.in_ok-append_intrinsic.ensures.code.level in
-    let r = level_same b.out d.out c.in_ok-append_number.ensures.level ∙ q in
-    let t = level_same d.out e.out c.in_ok-items.ensures.level ∙ r in
+    let q = same_level a.out b.out c.in_ok-append_intrinsic.ensures.code.level in
+    let r = same_level b.out d.out c.in_ok-append_number.ensures.level ∙ q in
+    let t = same_level d.out e.out c.in_ok-items.ensures.level ∙ r in
     let number : c.fitting.result ≡ pos (length a.formats.items) =
     omega (arith, ints, c.fitting.ensures, c.len-number.ensures, c.requires.ready.few, c.requires.ready.room) in
     λ sc fit.
@@ -63,8 +64,8 @@ items-requires g c =
     let second = c.in_ok-append_number.ensures.level in
     let F : ℕ → Type 0 = λ l. LineFits sc c.args.self.now.known.now l (exprs c.args.items.now) in
     record {
-      set = set_same a d (second ∙ first) c.requires.ready.set;
+      set = set_after a d (second ∙ first) c.requires.ready.set;
       near = c.requires.ready.near;
-      fits = (sc, subst F (sym (level_same b d second ∙ level_same a b first)) c.requires.fits.1.2);
+      fits = (sc, subst F (sym (same_level b d second ∙ same_level a b first)) c.requires.fits.1.2);
       room = omega (arith, c.in_ok-append_number.ensures.size, c.in_ok-append_intrinsic.ensures.size, c.requires.ready.room);
     }

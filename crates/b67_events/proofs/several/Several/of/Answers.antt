@@ -1,6 +1,6 @@
 use Rattle.std.proofs.Common.{◌<◌, ◌∙◌, length, arith}
 use Rattle.std.proofs.lemmas.List.{length-set}
-use Rattle.b67_events.proofs.OfSeveral.{taken-more}
+use Rattle.b67_events.proofs.OfSeveral.{taken_more}
 use Rattle.b67_events.proofs.several.Several.of.Goals as goal
 
 pub naming-preserved : goal.naming-preserved
@@ -12,5 +12,5 @@ naming-preserved c =
     let short : i < length places = omega (arith, within, c.requires, c.naming.invariant.long) in
     record {
       long = length-set places i _ ∙ c.naming.invariant.long;
-      named = taken-more places at i _ short within c.naming.invariant.named;
+      named = taken_more places at i _ short within c.naming.invariant.named;
     }

@@ -1,13 +1,14 @@
 use Rattle.std.proofs.Common.{◌≡◌, ap, ◌∙◌, ℕ, suc, Bool, true, false, Some, arith}
 use Rattle.b67_outcomes.specs.Entering.{ProcessEnters}
 use Rattle.b67_outcomes.proofs.Histories.{ok_map}
+use Rattle.b67_table.proofs.Cited.{may_able}
 use Rattle.b67_explorer.specs.Entries.{entered_by, EntriesFit, IsAtLimit}
-use Rattle.b67_explorer.proofs.Performed.{entered_as, is_able_there, performed_code}
+use Rattle.b67_explorer.proofs.Performed.{entered_as, performed_code}
 use Rattle.b67_explorer.proofs.Fitting.{come, fits_after, has_no_end, limit_after}
 use Rattle.b67_explorer.proofs.explorer.Explorer.go.Goals as goal
 
 pub perform_entry-performed-requires-clause-able : goal.perform_entry-performed-requires-clause-able
-perform_entry-performed-requires-clause-able g c = is_able_there c.args.self.now.machine.image c.args.process c.requires.may
+perform_entry-performed-requires-clause-able g c = may_able c.args.self.now.machine.image c.args.process c.requires.may
 
 pub perform_entry-performed-requires-clause-going : goal.perform_entry-performed-requires-clause-going
 perform_entry-performed-requires-clause-going g c =

@@ -1,14 +1,15 @@
 use Rattle.std.proofs.Common.{rules, ◌≡◌, ap, subst, ◌∙◌, ℕ, ◌+◌, ◌-◌, ◌≤◌, Bool, Some, arith}
 use Rattle.b67_outcomes.proofs.Repeating.{first_may}
+use Rattle.b67_table.proofs.Cited.{may_able, number_there}
 use Rattle.b67_explorer.specs.Entries.{EntriesFit}
-use Rattle.b67_explorer.proofs.Performed.{repeated_all, repeated_code, is_able_there}
-use Rattle.b67_explorer.proofs.Fitting.{fits_all, has_no_end, last_come, last_goes, number_from}
+use Rattle.b67_explorer.proofs.Performed.{repeated_all, repeated_code}
+use Rattle.b67_explorer.proofs.Fitting.{fits_all, has_no_end, last_come, last_goes}
 use Rattle.b67_explorer.proofs.explorer.Explorer.go_some.Goals as goal
 
 pub perform_entries-entered-requires-clause-able : goal.perform_entries-entered-requires-clause-able
 perform_entries-entered-requires-clause-able g c =
     let old = c.args.self.now.machine in
-    is_able_there old.image c.args.process (first_may old.code c.args.process c.args.most old.image c.requires.has.0 c.requires.some c.requires.has.1)
+    may_able old.image c.args.process (first_may old.code c.args.process c.args.most old.image c.requires.has.0 c.requires.some c.requires.has.1)
 
 pub perform_entries-entered-requires-clause-going : goal.perform_entries-entered-requires-clause-going
 perform_entries-entered-requires-clause-going g c =
@@ -30,7 +31,7 @@ entered_by-requires g c =
     let split : c.args.most + room.0 ≡ n + 1 + (c.args.most - (n + 1) + room.0) = omega (arith, within) in
     last_come old p 4294967295 c.perform_entries-entered.result c.perform_entries-entered.new.letters c.perform_entries-entered.new.self may
     c.perform_entries-entered.ensures.performs (c.args.most - (n + 1) + room.0) (subst (λ (k : ℕ). EntriesFit old k) split room.1) c.requires.known.1.follows.sound
-    c.requires.reached (number_from old.image p may) (omega (arith, below)) (omega arith)
+    c.requires.reached (number_there old.image p may) (omega (arith, below)) (omega arith)
 
 pub unreachable-requires : goal.unreachable-requires
 unreachable-requires g c =

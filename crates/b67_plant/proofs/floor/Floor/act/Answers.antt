@@ -4,7 +4,7 @@ use Rattle.b67_tally.specs.declared.Tally.{Tally}
 use Rattle.b67_stands.specs.Shared.{Shared, with_acts}
 use Rattle.b67_plant.specs.Calls.{acts_in}
 use Rattle.b67_plant.proofs.Made.{raised}
-use Rattle.b67_plant.proofs.Bursts.{acted_then}
+use Rattle.b67_plant.proofs.Bursts.{acted_then, acted_frees}
 use Rattle.b67_plant.proofs.floor.Floor.act.Goals as goal
 
 pub invariant_of-self : goal.invariant_of-self
@@ -24,3 +24,9 @@ invariant_of-self g c =
           c.args.me c.args.process c.act_many-acted.result.0 c.act_many-acted.result.1 c.requires.me.0 c.requires.me.1 c.act_many-acted.ensures.acts),
       ap (λ (t : Tally). t.name) c.add.ensures.tally ∙ i.1,
     )
+
+pub returns-clause-free : goal.returns-clause-free
+returns-clause-free g c =
+    λ some. acted_frees g.N.Named.code g.N.Named.budget g.N.Named.pick g.N.Named.processors c.self.inside.tally.numbers c.self.inside.plant c.act_many-acted.new.self
+    c.act_many-acted.ensures.sound c.act_many-acted.ensures.stands c.self.invariant.0 c.args.me c.args.process c.act_many-acted.result.0 c.act_many-acted.result.1 c.requires.me.0
+    c.requires.me.1 c.act_many-acted.ensures.acts some

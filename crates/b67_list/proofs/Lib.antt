@@ -1,0 +1,5 @@
+pub mod Answered
+pub mod Lists
+pub mod Numbered
+pub mod Numbers
+pub mod Truths
